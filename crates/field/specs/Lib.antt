@@ -1,0 +1,4 @@
+pub mod Model
+pub mod Residues
+pub mod Binary
+pub mod Prime

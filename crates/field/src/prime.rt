@@ -1,0 +1,108 @@
+// The field of the numbers modulo 257.
+ghost use mathlib.Core.Path.{_≡_};
+ghost use Prim.Native.Nat.{ℕ, _<_};
+ghost use Rattle.field.specs.Residues.{Below};
+ghost use Rattle.field.specs.Prime.{prime, symbol, times, inverse-of};
+use crate::Field;
+
+#[derive(Drop)]
+pub struct Prime {}
+
+fn multiply(a: u16, b: u16) -> u16
+    ensures { λ r. ⌜ r ≡ times a b ⌝ }
+{
+    ((a as u32 * b as u32) % 257) as u16
+}
+
+// The power 255, by squares.
+fn invert(a: u16) -> u16
+    requires { ⌜ a < 257 ⌝ }
+    ensures { λ r. ⌜ r ≡ inverse-of a ⌝ }
+{
+    let mut result: u16 = 1;
+    let mut power = a;
+    for _i in 0..8usize {
+        result = multiply(result, power);
+        power = multiply(power, power);
+    }
+    result
+}
+
+pub impl Field for Prime as PrimeField {
+    type Symbol = u16;
+
+    const SIZE: usize = 257;
+
+    const WIDTH: usize = 2;
+
+    ghost elements = { Below 257 };
+
+    ghost model = { prime };
+
+    ghost elem = { symbol };
+
+    ghost sym = { λ e. e .0 };
+
+    fn symbols() -> usize {
+        Self::SIZE
+    }
+
+    fn stored_width() -> usize {
+        Self::WIDTH
+    }
+
+    fn zero() -> u16 {
+        0
+    }
+
+    fn one() -> u16 {
+        1
+    }
+
+    fn add(a: u16, b: u16) -> u16 {
+        ((a as u32 + b as u32) % 257) as u16
+    }
+
+    fn sub(a: u16, b: u16) -> u16 {
+        ((a as u32 + (257 - b as u32 % 257)) % 257) as u16
+    }
+
+    fn mul(a: u16, b: u16) -> u16 {
+        multiply(a, b)
+    }
+
+    fn inverse(a: u16) -> u16 {
+        invert(a % 257)
+    }
+
+    fn point(j: usize) -> Option<u16> {
+        if j < 32 { Some(j as u16) } else { None }
+    }
+
+    fn from_byte(b: u8) -> u16 {
+        b as u16
+    }
+
+    fn to_byte(a: u16) -> Option<u8> {
+        let r = a % 257;
+        if r < 256 { Some(r as u8) } else { None }
+    }
+
+    fn read(bytes: &[u8]) -> Option<u16> {
+        if bytes.len() != Self::WIDTH {
+            return None;
+        }
+        let v = bytes[0] as u16 + bytes[1] as u16 * 256;
+        if v < 257 { Some(v) } else { None }
+    }
+
+    fn write(out: &mut [u8], a: u16) -> bool {
+        if out.len() < Self::WIDTH {
+            return false;
+        }
+        let r = a % 257;
+        out[0] = (r % 256) as u8;
+        out[1] = (r / 256) as u8;
+        true
+    }
+}
