@@ -22,6 +22,10 @@ mod-mul a b =
 pub mul-mod : (a b : ℕ) → a * (b % 257) % 257 ≡ a * b % 257
 mul-mod a b = ap (λ (m : ℕ). m % 257) (mul-comm a (b % 257)) ∙ mod-mul b a ∙ ap (λ (m : ℕ). m % 257) (mul-comm b a)
 
+-- 65536 is 1 modulo 257
+pub halves-add : (p : ℕ) → (p % 65536 % 257 + p / 65536 % 257) % 257 ≡ p % 257
+halves-add p = omega arith
+
 inverts : ℕ → Bool
 inverts a = eqb (suc a * (inverse-of (suc a) % 257) % 257) 1
 

@@ -8,10 +8,14 @@ use crate::Field;
 #[derive(Drop)]
 pub struct Prime {}
 
+// The product. 65536 is 1 modulo 257, so its two halves may be added: that keeps every remainder in 16 bits.
 fn multiply(a: u16, b: u16) -> u16
     ensures { λ r. ⌜ r ≡ times a b ⌝ }
 {
-    ((a as u32 * b as u32) % 257) as u16
+    let product = (a % 257) as u32 * b as u32;
+    let low = (product % 65536) as u16;
+    let high = (product / 65536) as u16;
+    (low % 257 + high % 257) % 257
 }
 
 // The power 255, by squares.
@@ -60,11 +64,11 @@ pub impl Field for Prime as PrimeField {
     }
 
     fn add(a: u16, b: u16) -> u16 {
-        ((a as u32 + b as u32) % 257) as u16
+        (a % 257 + b % 257) % 257
     }
 
     fn sub(a: u16, b: u16) -> u16 {
-        ((a as u32 + (257 - b as u32 % 257)) % 257) as u16
+        (a % 257 + (257 - b % 257)) % 257
     }
 
     fn mul(a: u16, b: u16) -> u16 {

@@ -1,0 +1,11 @@
+pub mod Algebra
+pub mod Roots
+pub mod Totals
+pub mod Basis
+pub mod Coded
+pub mod Turns
+pub mod Writes
+pub mod Rows
+pub mod Blocks
+pub mod First
+pub mod Payloads

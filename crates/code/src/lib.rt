@@ -1,0 +1,8 @@
+// A Reed-Solomon code: a file of L bytes as n shares, of which any k give it back, over any field.
+pub mod encoding;
+mod interpolation;
+pub mod shape;
+mod symbols;
+
+pub use shape::Code;
+pub use shape::FieldChoice;
