@@ -9,3 +9,5 @@ pub mod Rows
 pub mod Blocks
 pub mod First
 pub mod Payloads
+pub mod Decodings
+pub mod RoundTrip

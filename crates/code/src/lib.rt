@@ -1,4 +1,5 @@
 // A Reed-Solomon code: a file of L bytes as n shares, of which any k give it back, over any field.
+pub mod decoding;
 pub mod encoding;
 mod interpolation;
 pub mod shape;
