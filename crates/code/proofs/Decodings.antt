@@ -7,7 +7,7 @@ use native.Mathlib.Omega.{arith}
 use native.Mathlib.Nat.{div-add-mod', mod-lt}
 use lib.Dec.{lit<}
 use lib.ListN.{length, getD, take, drop}
-use Rattle.std.proofs.shelf.Lists.{getD-take, getD-past, length-take-le}
+use Rattle.std.proofs.shelf.Lists.{getD-take, getD-past, getD-default, length-take-le, same-lists}
 use Rattle.std.proofs.shelf.Tests.{cases-lt}
 use Rattle.field.specs.Model.{Ops, Laws}
 use Rattle.code.specs.Polynomials.{eval, Through}
@@ -20,7 +20,7 @@ use Rattle.code.proofs.Roots.{Apart, only-one}
 use Rattle.code.proofs.Basis.{exists}
 use Rattle.code.proofs.Totals.{interpolated-same}
 use Rattle.code.proofs.Rows.{row-ends}
-use Rattle.code.proofs.Blocks.{block-below, block-some}
+use Rattle.code.proofs.Blocks.{block-below, block-some, covered}
 use Rattle.code.proofs.Coded as coded
 
 module _ {E : Type 0} (F : Ops E) (L : Laws F) where
@@ -39,6 +39,40 @@ module _ {E : Type 0} (F : Ops E) (L : Laws F) where
     where
       through : (r : List E) → Fits F k B shares payloads i r → Through F k (λ m. F .point (getD shares m 0)) (λ m. F .loaded (symbol-bytes (F .width) payloads B m i)) r
       through r f = record { degree = f .degree; values = λ m h. sym (L .reads-back (eval F r (F .point (getD shares m 0)))) ∙ ap (F .loaded) (f .values m h) }
+
+  module _ (n k len : ℕ) (shares payloads : List ℕ) (some : 1 ≤ k) (small : n ≤ 32) (count : length shares ≡ k) (different : Different n shares) where
+    B : ℕ
+    B = block-length len k
+
+    -- the place of a byte of the file
+    place : (t : ℕ) → t < len → (t % B < B) × (t / B * B + t % B ≡ t)
+    unfolding B
+    place t h = (mod-lt t (block-some len k B (covered len k some) (omega arith)), div-add-mod' t B)
+
+    same-value : (b i : ℕ) (p q : List E) → Fits F k B shares payloads i p → Fits F k B shares payloads i q → eval F p (F .point b) ≡ eval F q (F .point b)
+    same-value b i p q fp fq = ap (λ r. eval F r (F .point b)) (fits-one n k B shares payloads i p q small count different fp fq)
+
+    -- shares decode to one file
+    pub decodes-one : (file other : List ℕ) → Decodes F k len shares payloads file → Decodes F k len shares payloads other → other ≡ file
+    unfolding B
+    decodes-one file other d e =
+        let byte : (t : ℕ) → t < len → getD other t 0 ≡ getD file t 0 = λ t h.
+        let p = place t h in
+        let u = t / B * B + t % B in
+        let within : u < len = omega (arith, p .1) in
+        let r = d .right (t / B) (t % B) (p .0) within in
+        let s = e .right (t / B) (t % B) (p .0) within in
+        subst (λ (v : ℕ). getD other v 0 ≡ getD file v 0) (p .1)
+        (L .bytes-differ (getD other u 0) (getD file u 0) (e .bytes u) (d .bytes u) (s .value ∙ same-value (t / B) (t % B) (s .p) (r .p) (s .fits) (r .fits) ∙ sym (r .value))) in
+        same-lists other file (e .size ∙ sym (d .size))
+        (λ t z h. getD-default other t z 0 h ∙ byte t (omega (arith, e .size)) ∙ getD-default file t 0 z (omega (arith, e .size, d .size)))
+
+    -- and where they decode to a file each of its values is a byte
+    pub decodes-good : (file : List ℕ) → Decodes F k len shares payloads file → No-byte F k (block-length len k) len shares payloads → ⊥
+    unfolding B
+    decodes-good file d o =
+        let r = d .right (o .b) (o .i) (o .place) (o .within) in
+        o .none (getD file (o .b * B + o .i) 0) (d .bytes (o .b * B + o .i)) (r .value ∙ same-value (o .b) (o .i) (r .p) (o .p) (r .fits) (o .fits))
 
   module _ {S : Type 0} (elem : S → E) (code : E → S) (back : (e : E) → elem (code e) ≡ e) (z : S)
       (n k B : ℕ) (shares payloads : List ℕ) (points rows : List S)
@@ -74,21 +108,12 @@ module _ {E : Type 0} (F : Ops E) (L : Laws F) where
         let p = fit i h in
         record { b = b; i = i; place = h; within = within; p = p .0; fits = p .1; none = λ y hy e. none y hy (e ∙ p .2 b) }
 
-    -- nothing is outside the field, and where each byte is right nothing is no byte
+    -- nothing is outside the field
     pub inside : Outside F k B payloads → ⊥
     unfolding symbol-bytes
     inside o =
         o .none (elem (getD rows (o .m * B + o .i) z))
         (read (o .m * B + o .i) (let s = o .share in let l = o .place in omega (arith, row-ends (o .m) k B (k * B) s (omega arith))))
-
-    pub all-bytes : (len : ℕ) (found : List ℕ)
-        → ((b i : ℕ) → i < B → b * B + i < len → (getD found (b * B + i) 0 < 256) × (F .byte (getD found (b * B + i) 0) ≡ reckoned b i))
-        → No-byte F k B len shares payloads → ⊥
-    all-bytes len found done o =
-        let p = fit (o .i) (o .place) in
-        let d = done (o .b) (o .i) (o .place) (o .within) in
-        o .none (getD found (o .b * B + o .i) 0) (d .0)
-        (d .1 ∙ sym (p .2 (o .b)) ∙ ap (λ q. eval F q (F .point (o .b))) (fits-one n k B shares payloads (o .i) (p .0) (o .p) small count different (p .1) (o .fits)))
 
     -- the bytes that were found are the file
     pub decodes : (len : ℕ) (found : List ℕ) → B ≡ block-length len k → len ≤ k * B → len ≤ length found

@@ -11,3 +11,4 @@ pub mod First
 pub mod Payloads
 pub mod Decodings
 pub mod RoundTrip
+pub mod ByHand

@@ -7,6 +7,7 @@ use lib.ListN.{length, getD}
 use Rattle.field.specs.Model.{Ops, Laws}
 use Rattle.code.specs.Lagrange.{entry, interpolated}
 use Rattle.code.specs.Shares.{block-length, block-byte, serial, Payload}
+use Rattle.code.specs.Theorems.{One-payload}
 use Rattle.code.proofs.Roots.{Apart}
 use Rattle.code.proofs.Basis.{exists, value-is}
 use Rattle.code.proofs.Totals.{interpolated-same}
@@ -34,8 +35,8 @@ module _ {E : Type 0} (F : Ops E) (L : Laws F) where
       let r = q .right i h in
       r .2 ∙ value-is F L (F .point) (λ b. F .byte (block-byte file k b i)) k (r .0) (points-apart k few) (r .1) (F .point j)
 
-  pub one-payload : (k j : ℕ) (file a b : List ℕ) → k ≤ 32 → Payload F k file j a → Payload F k file j b → a ≡ b
-  one-payload k j file a b few p q =
+  pub same-payload : (k j : ℕ) (file a b : List ℕ) → k ≤ 32 → Payload F k file j a → Payload F k file j b → a ≡ b
+  same-payload k j file a b few p q =
       p .holds
       ∙ serial-same F (p .value) (q .value) (block-length (length file) k) (λ i h. value-of k j file a few p i h ∙ sym (value-of k j file b few q i h))
       ∙ sym (q .holds)
@@ -52,6 +53,12 @@ module _ {E : Type 0} (F : Ops E) (L : Laws F) where
         (p .0, p .1, values i h ∙ sym (p .2 (F .point j)));
     holds = refl;
   }
+
+  -- a share has one payload, and only one
+  pub one-payload : One-payload F
+  one-payload k j file few =
+      let p = payload-from k j file (share-value F k file j) few (λ i h. refl) in
+      (serial F (share-value F k file j) (block-length (length file) k), p, λ other q. same-payload k j file other (serial F (share-value F k file j) (block-length (length file) k)) few q p)
 
   module _ {S : Type 0} (elem : S → E) (code : E → S) (back : (e : E) → elem (code e) ≡ e) (z : S) where
     -- the sums over the points 0 to k - 1 and the symbols of the file are the values at point j

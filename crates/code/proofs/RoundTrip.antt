@@ -3,14 +3,14 @@ use mathlib.Core.Path.{_≡_, refl, sym, ap, subst, _∙_}
 use mathlib.Core.Bool.{true}
 use mathlib.Core.List.{List, [], _∷_, _++_}
 use mathlib.Core.Logic.{_⊎_, inl, inr}
-use Prim.Native.Nat.{ℕ, suc, _+_, _*_, _/_, _%_, _≤_, _<_}
+use Prim.Native.Nat.{ℕ, suc, _+_, _*_, _≤_, _<_}
 use native.Mathlib.Omega.{arith}
-use native.Mathlib.Nat.{not-suc-le-zero, div-add-mod', mod-lt, le-refl}
+use native.Mathlib.Nat.{not-suc-le-zero, le-refl}
 use lib.ListN.{length, getD, take, drop, length-drop}
 use lib.Seq.{take-all}
 use Rattle.std.proofs.shelf.Bits.{mul-le}
 use Rattle.std.proofs.shelf.Tests.{cases-eq}
-use Rattle.std.proofs.shelf.Lists.{getD-default, drop-drop, drop-at, same-lists, take-append-le, drop-append-le}
+use Rattle.std.proofs.shelf.Lists.{drop-drop, drop-at, take-append-le, drop-append-le}
 use Rattle.std.specs.declared.result.Result.{Result}
 use Rattle.std.specs.declared.result.Result.the-variants.{Ok, Err}
 use Rattle.refusal.specs.declared.Fault.{Fault}
@@ -22,9 +22,9 @@ use Rattle.code.specs.Codes.{Numbers}
 use Rattle.code.specs.Calls.{Recovers}
 use Rattle.code.specs.Theorems.{Gives-back}
 use Rattle.code.proofs.Basis.{exists}
-use Rattle.code.proofs.Blocks.{serial-length, covered, block-some, block-below}
+use Rattle.code.proofs.Blocks.{serial-length, covered, block-below}
 use Rattle.code.proofs.Payloads.{share-value, points-apart, value-of}
-use Rattle.code.proofs.Decodings.{fits-one}
+use Rattle.code.proofs.Decodings.{decodes-good}
 
 -- a part of a front
 front-part : (xs : List ℕ) (a b n : ℕ) → a + n ≤ b → take n (drop a (take b xs)) ≡ take n (drop a xs)
@@ -86,44 +86,27 @@ module _ {E : Type 0} (F : Ops E) (L : Laws F) where
           q .1 .values,
         )
 
-    -- so does no other, and at point b it has the value of block b
-    block-value : (b i : ℕ) (p : List E) → b < k → i < B → Fits F k B shares payloads i p → eval F p (F .point b) ≡ F .byte (block-byte file k b i)
-    block-value b i p hb h fits =
-        let q = curve i h in
-        ap (λ r. eval F r (F .point b)) (fits-one F L n k B shares payloads i p (q .0) small (of .lengths .count) (of .different) fits (q .1)) ∙ q .2 b hb
+    -- so the shares decode to the file
+    file-decodes : Decodes F k (length file) shares payloads file
+    unfolding B
+    file-decodes = record {
+      size = refl;
+      bytes = bytes;
+      right = λ b i h within.
+          let q = curve i h in
+          record { p = q .0; fits = q .1; value = sym (q .2 b (block-below b i k B (length file) within (covered (length file) k some))) };
+    }
 
     no-outside : Outside F k B payloads → ⊥
     unfolding B
     no-outside o = o .none (share-value F k file (getD shares (o .m) 0) (o .i)) (symbol-of k (getD shares (o .m) 0) (o .m) (o .i) file payloads few (o .place) (of .payload (o .m) (o .share)))
-
-    no-no-byte : No-byte F k B (length file) shares payloads → ⊥
-    unfolding B
-    no-no-byte o =
-        let hb = block-below (o .b) (o .i) k B (length file) (o .within) (covered (length file) k some) in
-        o .none (block-byte file k (o .b) (o .i)) (bytes (o .b * B + o .i)) (sym (block-value (o .b) (o .i) (o .p) hb (o .place) (o .fits)))
-
-    same-file : (found : List ℕ) → Decodes F k (length file) shares payloads found → found ≡ file
-    unfolding B
-    same-file found d =
-        let cut = covered (length file) k some in
-        let byte : (t : ℕ) → t < length file → getD found t 0 ≡ getD file t 0 = λ t h.
-        let e : t / B * B + t % B ≡ t = div-add-mod' t B in
-        let hi : t % B < B = mod-lt t (block-some (length file) k B cut (omega arith)) in
-        let hn : t / B * B + t % B < length file = omega arith in
-        let hb = block-below (t / B) (t % B) k B (length file) hn cut in
-        let r = d .right (t / B) (t % B) hi hn in
-        subst (λ (s : ℕ). getD found s 0 ≡ getD file s 0) e
-        (L .bytes-differ (getD found (t / B * B + t % B) 0) (getD file (t / B * B + t % B) 0) (d .bytes (t / B * B + t % B)) (bytes (t / B * B + t % B))
-        (r .value ∙ block-value (t / B) (t % B) (r .p) hb hi (r .fits))) in
-        same-lists found file (d .size)
-        (λ t z h. getD-default found t z 0 h ∙ byte t (omega (arith, d .size)) ∙ getD-default file t 0 z (omega (arith, d .size)))
 
     -- what decode answers is the file
     restored : (was now : List ℕ) (r : Result (Unit {0}) Fault) (field h : ℕ)
         → Recovers F (record { field = field; k = k; h = h; n = n }) (length file) shares payloads was now r → length file ≤ length was
         → (Rattle.std.specs.Results.isOk r ≡ true) × (now ≡ file ++ drop (length file) was)
     unfolding B
-    restored was now (Ok x) field h a room = (refl, a .1 .written ∙ ap (λ (f : List ℕ). f ++ drop (length file) was) (same-file (a .1 .file) (a .1 .decodes)))
+    restored was now (Ok x) field h a room = (refl, a .1 .written ∙ ap (λ (f : List ℕ). f ++ drop (length file) was) (sym (a .1 .only file file-decodes)))
     restored was now (Err e) field h (told, same) room = absurd (
         elim told [
           | inl w ↦ w .0 (of .lengths)
@@ -132,7 +115,7 @@ module _ {E : Type 0} (F : Ops E) (L : Laws F) where
             | inr u ↦ elim (u .1) [
               | inl w ↦ let short = w .0 in omega arith
               | inr v ↦ elim (v .1) [
-                | inl w ↦ elim (w .0) [ inl o ↦ no-outside o | inr o ↦ no-no-byte o ]
+                | inl w ↦ elim (w .0) [ inl o ↦ no-outside o | inr o ↦ decodes-good F L n k (length file) shares payloads some small (of .lengths .count) (of .different) file file-decodes o ]
                 | inr x ↦ x .1
               ]
             ]

@@ -52,10 +52,11 @@ decode-grounds F k n L shares payloads room =
     ∷ ground (Outside F k (block-length L k) payloads ⊎ No-byte F k (block-length L k) L shares payloads) (by-code 14)
     ∷ []
 
--- the file that the shares decode to stands at the start of the buffer, which is else as it was
+-- the file that the shares decode to, which is the only one, stands at the start of the buffer, which is else as it was
 pub record Decoded {E : Type 0} (F : Ops E) (k L : ℕ) (shares payloads was now : List ℕ) : Type 0 where
   pub file : List ℕ
   pub decodes : Decodes F k L shares payloads file
+  pub only : (other : List ℕ) → Decodes F k L shares payloads other → other ≡ file
   pub written : now ≡ file ++ drop L was
 
 -- what decode answers, and the buffer after it

@@ -4,7 +4,7 @@ ghost use Prim.Native.Nat.{ℕ, _≤_};
 ghost use lib.ListN.{length};
 ghost use Rattle.code.specs.Codes.{numbers, field-of};
 ghost use Rattle.code.specs.Calls.{Encodes};
-ghost use Rattle.code.specs.Theorems.{One-polynomial};
+ghost use Rattle.code.specs.Theorems.{One-polynomial, One-payload};
 use crate::interpolation::interpolate;
 use crate::interpolation::points_of;
 use crate::shape::Code;
@@ -80,6 +80,7 @@ impl Code {
     ) -> Result<usize, Fault>
         ensures answers { λ r. ⌜ Encodes model (numbers self) (now (file .entry)) share (now (out .entry)) (now (out .exit)) r ⌝ }
         ensures polynomial { λ _. ⌜ One-polynomial model ⌝ }
+        ensures payload { λ _. ⌜ One-payload model ⌝ }
     {
         let mut symbols = [F::zero(); 16384];
         let mut sums = [F::zero(); 1024];

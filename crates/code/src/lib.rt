@@ -1,6 +1,7 @@
 // A Reed-Solomon code: a file of L bytes as n shares, of which any k give it back, over any field.
 pub mod decoding;
 pub mod encoding;
+pub mod examples;
 mod interpolation;
 pub mod shape;
 mod symbols;

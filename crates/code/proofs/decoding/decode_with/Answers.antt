@@ -10,7 +10,7 @@ use Rattle.refusal.specs.Grounds.{Told, Clear}
 use Rattle.code.specs.Decoding.{Lengths, Different, Outside, No-byte}
 use Rattle.code.specs.Calls.{by-code, decode-grounds, Decoded}
 use Rattle.code.proofs.Blocks.{sizes, block-some}
-use Rattle.code.proofs.Decodings.{reckoned, no-byte, inside, all-bytes, decodes, outside-at, told-bad, all-clear}
+use Rattle.code.proofs.Decodings.{reckoned, no-byte, inside, decodes, decodes-one, decodes-good, outside-at, told-bad, all-clear}
 use Rattle.code.proofs.decoding.decode_with.Given as given
 use Rattle.code.proofs.decoding.decode_with.Needs as need
 use Rattle.code.proofs.decoding.decode_with.Needs.{Else-out-len, After-points-of-points}
@@ -129,11 +129,15 @@ returns g c =
     let h = known g at in
     let found = c .decode-blocks .last .found in
     let long : c .args .len ≤ length found = omega (arith, h, c .pre .byte-room, c .decode-blocks .kept .found) in
+    let some : 1 ≤ k = omega (arith, c .k-k .ensures, c .args .code .numbers) in
+    let right = decodes o (g .F·Field·met .lawful) (f .elem) (f .sym) (g .F·Field·met .recovers) z (c .n .result) k B (c .args .shares .now) (c .args .payloads .now) pts (c .read-symbols .last .symbols)
+    small (c .if-shares-k .left) (c .if-not-are-different .ensures tt) (size g far) (points g far) (c .if-not-read-symbols .ensures tt) (c .args .len) found (c .in-Some .ensures tt .0) (h .2) long done in
     let good : Outside o k B (c .args .payloads .now) ⊎ No-byte o k B (c .args .len) (c .args .shares .now) (c .args .payloads .now) → ⊥ = λ bad. elim bad [
       | inl out ↦ inside o (g .F·Field·met .lawful) (f .elem) (f .sym) (g .F·Field·met .recovers) z (c .n .result) k B (c .args .shares .now) (c .args .payloads .now) pts (c .read-symbols .last .symbols)
           small (c .if-shares-k .left) (c .if-not-are-different .ensures tt) (size g far) (points g far) (c .if-not-read-symbols .ensures tt) out
-      | inr none ↦ all-bytes o (g .F·Field·met .lawful) (f .elem) (f .sym) (g .F·Field·met .recovers) z (c .n .result) k B (c .args .shares .now) (c .args .payloads .now) pts (c .read-symbols .last .symbols)
-          small (c .if-shares-k .left) (c .if-not-are-different .ensures tt) (size g far) (points g far) (c .if-not-read-symbols .ensures tt) (c .args .len) found done none
+      | inr none ↦
+          decodes-good o (g .F·Field·met .lawful) (c .n .result) k (c .args .len) (c .args .shares .now) (c .args .payloads .now) some small (c .if-shares-k .left) (c .if-not-are-different .ensures tt)
+          (take (c .args .len) found) right (subst (λ (b : ℕ). No-byte o k b (c .args .len) (c .args .shares .now) (c .args .payloads .now)) (c .in-Some .ensures tt .0) none)
     ] in
     let clear = all-clear o k (c .n .result) (c .args .len) B (c .args .shares .now) (c .args .payloads .now) (length (c .args .out .now))
     (c .in-Some .ensures tt .0) (lengths g at) (c .if-not-are-different .ensures tt) (c .if-out-len .left) good in
@@ -141,8 +145,9 @@ returns g c =
     let now = c .copy-from-slice .last .self ++ drop (c .args .len - 0) (c .args .out .now) in
     let decoded : Decoded o k (c .args .len) (c .args .shares .now) (c .args .payloads .now) (c .args .out .now) now = record {
       file = take (c .args .len) found;
-      decodes = decodes o (g .F·Field·met .lawful) (f .elem) (f .sym) (g .F·Field·met .recovers) z (c .n .result) k B (c .args .shares .now) (c .args .payloads .now) pts (c .read-symbols .last .symbols)
-          small (c .if-shares-k .left) (c .if-not-are-different .ensures tt) (size g far) (points g far) (c .if-not-read-symbols .ensures tt) (c .args .len) found (c .in-Some .ensures tt .0) (h .2) long done;
+      decodes = right;
+      only = λ other d. decodes-one o (g .F·Field·met .lawful) (c .n .result) k (c .args .len) (c .args .shares .now) (c .args .payloads .now) some small (c .if-shares-k .left) (c .if-not-are-different .ensures tt)
+          (take (c .args .len) found) other right d;
       written = ap₂ _++_ (c .copy-from-slice .ensures .after ∙ ap (λ (n : ℕ). take n found) front) (ap (λ (n : ℕ). drop n (c .args .out .now)) front);
     } in (
       subst (λ (k : ℕ). Clear (decode-grounds o k (c .args .code .n) (c .args .len) (c .args .shares .now) (c .args .payloads .now) (length (c .args .out .now)))) (c .k-k .ensures)

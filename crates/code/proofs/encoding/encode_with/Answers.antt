@@ -10,7 +10,7 @@ use Rattle.code.specs.Shares.{Sized, block-length, serial}
 use Rattle.code.specs.Calls.{Encoded}
 use Rattle.code.proofs.Blocks.{sizes, serial-length}
 use Rattle.code.proofs.First.{first, first-is, first-length}
-use Rattle.code.proofs.Payloads.{one-payload, sums-payload}
+use Rattle.code.proofs.Payloads.{same-payload, sums-payload}
 use Rattle.code.proofs.encoding.encode_with.Given as given
 use Rattle.code.proofs.encoding.encode_with.Needs as need
 use Rattle.code.proofs.encoding.encode_with.Needs.{In-Some, After-points-of-points}
@@ -80,7 +80,7 @@ returns g c =
     let encoded : Encoded o k file share (c .args .out .now) (c .store .last .out) (block * c .stored-width .result) = record {
       bytes = bytes;
       payload = payload;
-      only = λ other q. one-payload o law k share file other bytes (omega arith) q payload;
+      only = λ other q. same-payload o law k share file other bytes (omega arith) q payload;
       length-is = ap (λ (n : ℕ). block * n) wide ∙ sym (serial-length o law value block);
       written = c .store .ensures ∙ ap (λ (n : ℕ). bytes ++ drop (block * n) (c .args .out .now)) (sym wide);
     } in
