@@ -124,7 +124,7 @@ module _ {E : Type 0} (F : Ops E) (L : Laws F) where
 
   -- any k different shares of a file decode to exactly that file
   pub gives-back : (c : Numbers) (len : ℕ) (shares payloads was now : List ℕ) (r : Result (Unit {0}) Fault) → 1 ≤ c .k → c .k ≤ 32 → c .n ≤ 32
-      → Recovers F c len shares payloads was now r → Gives-back F (c .k) (c .n) len shares payloads was now r
+      → Recovers F c len shares payloads was now r → Gives-back F c len shares payloads was now r
   gives-back c len shares payloads was now r some few small a file bytes e of room =
       subst
       (λ (m : ℕ). Recovers F c m shares payloads was now r → m ≤ length was → (Rattle.std.specs.Results.isOk r ≡ true) × (now ≡ file ++ drop m was)) e

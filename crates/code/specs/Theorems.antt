@@ -11,6 +11,7 @@ use Rattle.field.specs.Model.{Ops}
 use Rattle.code.specs.Polynomials.{Through}
 use Rattle.code.specs.Shares.{Bytes, Payload}
 use Rattle.code.specs.Decoding.{Shares-of}
+use Rattle.code.specs.Codes.{Numbers}
 
 -- k different points and k values: one polynomial of degree below k has these values at these points, and only one
 abbrev pub One-polynomial : {E : Type 0} → Ops E → Type 0
@@ -25,7 +26,7 @@ One-payload F =
     → (bytes : List ℕ) × Payload F k file j bytes × ((other : List ℕ) → Payload F k file j other → other ≡ bytes)
 
 -- any k different shares of a file decode to exactly that file: decode then refuses nothing but a short buffer
-abbrev pub Gives-back : {E : Type 0} → Ops E → (k n L : ℕ) (shares payloads was now : List ℕ) → Result (Unit {0}) Fault → Type 0
-Gives-back F k n L shares payloads was now r =
-    (file : List ℕ) → Bytes file → length file ≡ L → Shares-of F k n file shares payloads → L ≤ length was
+abbrev pub Gives-back : {E : Type 0} → Ops E → Numbers → (L : ℕ) (shares payloads was now : List ℕ) → Result (Unit {0}) Fault → Type 0
+Gives-back F c L shares payloads was now r =
+    (file : List ℕ) → Bytes file → length file ≡ L → Shares-of F (c .k) (c .n) file shares payloads → L ≤ length was
     → (isOk r ≡ true) × (now ≡ file ++ drop L was)

@@ -141,6 +141,49 @@ fn decode_with<F: Field>(
     Ok(())
 }
 
+// As decode_over.
+fn decode_in<F: Field>(
+    code: Code,
+    shares: &[usize],
+    payloads: &[u8],
+    len: usize,
+    out: &mut [u8],
+) -> Result<(), Fault>
+    ensures answers { λ r. ⌜ Recovers model (numbers code) len (now (shares .entry)) (now (payloads .entry)) (now (out .entry)) (now (out .exit)) r ⌝ }
+    ensures restores { λ r. ⌜ Gives-back model (numbers code) len (now (shares .entry)) (now (payloads .entry)) (now (out .entry)) (now (out .exit)) r ⌝ }
+{
+    let mut symbols = [F::zero(); 16384];
+    let mut sums = [F::zero(); 1024];
+    let mut found = [0u8; 16384];
+    decode_with::<F>(
+        code,
+        shares,
+        payloads,
+        &mut symbols,
+        &mut sums,
+        &mut found,
+        out,
+        len,
+    )
+}
+
+// As decode.
+fn decode_by(
+    code: Code,
+    shares: &[usize],
+    payloads: &[u8],
+    len: usize,
+    out: &mut [u8],
+) -> Result<(), Fault>
+    ensures answers { λ r. ⌜ Recovers (field-of (numbers code .field) .model) (numbers code) len (now (shares .entry)) (now (payloads .entry)) (now (out .entry)) (now (out .exit)) r ⌝ }
+    ensures restores { λ r. ⌜ Gives-back (field-of (numbers code .field) .model) (numbers code) len (now (shares .entry)) (now (payloads .entry)) (now (out .entry)) (now (out .exit)) r ⌝ }
+{
+    match code.field() {
+        FieldChoice::Binary => decode_in::<Binary>(code, shares, payloads, len, out),
+        FieldChoice::Prime => decode_in::<Prime>(code, shares, payloads, len, out),
+    }
+}
+
 impl Code {
     // Writes the file of this length to the start of the buffer, from k different shares with their payloads one after another.
     // The field may be any.
@@ -152,21 +195,9 @@ impl Code {
         out: &mut [u8],
     ) -> Result<(), Fault>
         ensures answers { λ r. ⌜ Recovers model (numbers self) len (now (shares .entry)) (now (payloads .entry)) (now (out .entry)) (now (out .exit)) r ⌝ }
-        ensures restores { λ r. ⌜ Gives-back model (self .k) (self .n) len (now (shares .entry)) (now (payloads .entry)) (now (out .entry)) (now (out .exit)) r ⌝ }
+        ensures restores { λ r. ⌜ Gives-back model (numbers self) len (now (shares .entry)) (now (payloads .entry)) (now (out .entry)) (now (out .exit)) r ⌝ }
     {
-        let mut symbols = [F::zero(); 16384];
-        let mut sums = [F::zero(); 1024];
-        let mut found = [0u8; 16384];
-        decode_with::<F>(
-            self,
-            shares,
-            payloads,
-            &mut symbols,
-            &mut sums,
-            &mut found,
-            out,
-            len,
-        )
+        decode_in::<F>(self, shares, payloads, len, out)
     }
 
     // Writes the file of this length to the start of the buffer, from k different shares with their payloads one after another,
@@ -179,11 +210,8 @@ impl Code {
         out: &mut [u8],
     ) -> Result<(), Fault>
         ensures answers { λ r. ⌜ Recovers (field-of (numbers self .field) .model) (numbers self) len (now (shares .entry)) (now (payloads .entry)) (now (out .entry)) (now (out .exit)) r ⌝ }
-        ensures restores { λ r. ⌜ Gives-back (field-of (numbers self .field) .model) (self .k) (self .n) len (now (shares .entry)) (now (payloads .entry)) (now (out .entry)) (now (out .exit)) r ⌝ }
+        ensures restores { λ r. ⌜ Gives-back (field-of (numbers self .field) .model) (numbers self) len (now (shares .entry)) (now (payloads .entry)) (now (out .entry)) (now (out .exit)) r ⌝ }
     {
-        match self.field() {
-            FieldChoice::Binary => self.decode_over::<Binary>(shares, payloads, len, out),
-            FieldChoice::Prime => self.decode_over::<Prime>(shares, payloads, len, out),
-        }
+        decode_by(self, shares, payloads, len, out)
     }
 }

@@ -4,7 +4,6 @@ ghost use Prim.Native.Nat.{ℕ, _≤_};
 ghost use lib.ListN.{length};
 ghost use Rattle.code.specs.Codes.{numbers, field-of};
 ghost use Rattle.code.specs.Calls.{Encodes};
-ghost use Rattle.code.specs.Theorems.{One-polynomial, One-payload};
 use crate::interpolation::interpolate;
 use crate::interpolation::points_of;
 use crate::shape::Code;
@@ -70,6 +69,16 @@ fn encode_with<F: Field>(
     Ok(size)
 }
 
+// As encode.
+fn encode_by(code: Code, file: &[u8], share: usize, out: &mut [u8]) -> Result<usize, Fault>
+    ensures { λ r. ⌜ Encodes (field-of (numbers code .field) .model) (numbers code) (now (file .entry)) share (now (out .entry)) (now (out .exit)) r ⌝ }
+{
+    match code.field() {
+        FieldChoice::Binary => code.encode_over::<Binary>(file, share, out),
+        FieldChoice::Prime => code.encode_over::<Prime>(file, share, out),
+    }
+}
+
 impl Code {
     // Writes the payload of one share of the file to the start of the buffer, and tells its length. The field may be any.
     pub fn encode_over<F: Field>(
@@ -78,9 +87,7 @@ impl Code {
         share: usize,
         out: &mut [u8],
     ) -> Result<usize, Fault>
-        ensures answers { λ r. ⌜ Encodes model (numbers self) (now (file .entry)) share (now (out .entry)) (now (out .exit)) r ⌝ }
-        ensures polynomial { λ _. ⌜ One-polynomial model ⌝ }
-        ensures payload { λ _. ⌜ One-payload model ⌝ }
+        ensures { λ r. ⌜ Encodes model (numbers self) (now (file .entry)) share (now (out .entry)) (now (out .exit)) r ⌝ }
     {
         let mut symbols = [F::zero(); 16384];
         let mut sums = [F::zero(); 1024];
@@ -91,9 +98,6 @@ impl Code {
     pub fn encode(self, file: &[u8], share: usize, out: &mut [u8]) -> Result<usize, Fault>
         ensures { λ r. ⌜ Encodes (field-of (numbers self .field) .model) (numbers self) (now (file .entry)) share (now (out .entry)) (now (out .exit)) r ⌝ }
     {
-        match self.field() {
-            FieldChoice::Binary => self.encode_over::<Binary>(file, share, out),
-            FieldChoice::Prime => self.encode_over::<Prime>(file, share, out),
-        }
+        encode_by(self, file, share, out)
     }
 }

@@ -1,6 +1,6 @@
 // The field of 256 symbols: bytes as polynomials over 0 and 1, the product reduced by 0x11D.
 ghost use mathlib.Core.Path.{_≡_};
-ghost use Prim.Native.Nat.{ℕ, _<_};
+ghost use Prim.Native.Nat.{ℕ, _*_, _/_};
 ghost use Rattle.field.specs.Residues.{Below};
 ghost use Rattle.field.specs.Binary.{binary, symbol, times, inverse-of, point-of};
 use crate::Field;
@@ -8,16 +8,31 @@ use crate::Field;
 #[derive(Drop)]
 pub struct Binary {}
 
+// What is left of 0x11D where the bit that leaves at the top is set.
+fn reduction(a: u8) -> u8
+    ensures { λ r. ⌜ r ≡ a / 128 * 0x1D ⌝ }
+{
+    a / 128 * 0x1D
+}
+
 // The product with x: the bits move up by one, and the one that leaves takes 0x11D away.
 fn double(a: u8) -> u8
     ensures { λ r. ⌜ r ≡ times a 2 ⌝ }
 {
-    (a % 128 * 2) ^ (a / 128 * 0x1D)
+    (a % 128 * 2) ^ reduction(a)
+}
+
+// The sum, which is the difference too.
+fn sum_of(a: u8, b: u8) -> u8
+    ensures { λ r. ⌜ r ≡ binary .add (symbol a) (symbol b) .0 ⌝ }
+{
+    a ^ b
 }
 
 // The product, bit by bit of the second factor and without a branch.
 fn multiply(a: u8, b: u8) -> u8
-    ensures { λ r. ⌜ r ≡ times a b ⌝ }
+    ensures plain { λ r. ⌜ r ≡ times a b ⌝ }
+    ensures symbols { λ r. ⌜ r ≡ binary .mul (symbol a) (symbol b) .0 ⌝ }
 {
     let mut sum: u8 = 0;
     let mut shifted = a;
@@ -89,11 +104,11 @@ pub impl Field for Binary as BinaryField {
     }
 
     fn add(a: u8, b: u8) -> u8 {
-        a ^ b
+        sum_of(a, b)
     }
 
     fn sub(a: u8, b: u8) -> u8 {
-        a ^ b
+        sum_of(a, b)
     }
 
     fn mul(a: u8, b: u8) -> u8 {

@@ -87,3 +87,42 @@ pub trait Field {
     fn write(out: &mut [u8], a: Self::Symbol) -> bool
         ensures { λ r. ⌜ When r ((model .width ≤ length (now (out .entry))) × (now (out .exit) ≡ model .stored (elem a) ++ drop (model .width) (now (out .entry)))) ((length (now (out .entry)) < model .width) × (now (out .exit) ≡ now (out .entry))) ⌝ };
 }
+
+#[cfg(test)]
+mod tests {
+    use super::Field;
+    use super::binary::Binary;
+    use super::binary::BinaryField;
+    use super::prime::Prime;
+    use super::prime::PrimeField;
+    use std::test::*;
+
+    #[test]
+    fn of_256_symbols() -> Result<(), Fail> {
+        check_eq(Binary::mul(2, 128), 29)?;
+        check_eq(Binary::inverse(2), 142)?;
+        check_eq(Binary::sub(5, 7), 2)?;
+        check_eq(Binary::point(9), Some(29))?;
+        check_eq(Binary::point(32), None)?;
+        check_eq(Binary::read(&[7, 0]), None)
+    }
+
+    #[test]
+    fn of_257_symbols() -> Result<(), Fail> {
+        check_eq(Prime::mul(16, 32), 255)?;
+        check_eq(Prime::inverse(2), 129)?;
+        check_eq(Prime::sub(3, 5), 255)?;
+        check_eq(Prime::to_byte(256), None)?;
+        check_eq(Prime::read(&[0, 1]), Some(256))?;
+        check_eq(Prime::read(&[1, 1]), None)
+    }
+
+    #[test]
+    fn stored_low_byte_first() -> Result<(), Fail> {
+        let mut out = [9u8; 3];
+        check(Prime::write(&mut out, 256))?;
+        check_eq(out, [0, 1, 9])?;
+        check(!Prime::write(&mut out[2..], 5))?;
+        check_eq(out, [0, 1, 9])
+    }
+}

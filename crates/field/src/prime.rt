@@ -1,8 +1,8 @@
 // The field of the numbers modulo 257.
 ghost use mathlib.Core.Path.{_≡_};
-ghost use Prim.Native.Nat.{ℕ, _<_};
+ghost use Prim.Native.Nat.{ℕ};
 ghost use Rattle.field.specs.Residues.{Below};
-ghost use Rattle.field.specs.Prime.{prime, symbol, times, inverse-of};
+ghost use Rattle.field.specs.Prime.{prime, symbol, times};
 use crate::Field;
 
 #[derive(Drop)]
@@ -10,7 +10,8 @@ pub struct Prime {}
 
 // The product. 65536 is 1 modulo 257, so its two halves may be added: that keeps every remainder in 16 bits.
 fn multiply(a: u16, b: u16) -> u16
-    ensures { λ r. ⌜ r ≡ times a b ⌝ }
+    ensures plain { λ r. ⌜ r ≡ times a b ⌝ }
+    ensures symbols { λ r. ⌜ r ≡ prime .mul (symbol a) (symbol b) .0 ⌝ }
 {
     let product = (a % 257) as u32 * b as u32;
     let low = (product % 65536) as u16;
@@ -20,11 +21,10 @@ fn multiply(a: u16, b: u16) -> u16
 
 // The power 255, by squares.
 fn invert(a: u16) -> u16
-    requires { ⌜ a < 257 ⌝ }
-    ensures { λ r. ⌜ r ≡ inverse-of a ⌝ }
+    ensures { λ r. ⌜ r ≡ prime .inverse (symbol a) .0 ⌝ }
 {
     let mut result: u16 = 1;
-    let mut power = a;
+    let mut power = a % 257;
     for _i in 0..8usize {
         result = multiply(result, power);
         power = multiply(power, power);
@@ -76,7 +76,7 @@ pub impl Field for Prime as PrimeField {
     }
 
     fn inverse(a: u16) -> u16 {
-        invert(a % 257)
+        invert(a)
     }
 
     fn point(j: usize) -> Option<u16> {

@@ -60,13 +60,25 @@ pub struct Fault {
     pub detail: usize,
 }
 
+fn number_of_reason(reason: Reason) -> u8
+    ensures { λ r. ⌜ r ≡ reason-number reason ⌝ }
+{
+    reason as u8
+}
+
+fn number_of_layer(layer: Layer) -> u8
+    ensures { λ r. ⌜ r ≡ layer-number layer ⌝ }
+{
+    layer as u8
+}
+
 impl Reason {
     // The number of the reason, which no other reason has.
     pub fn number(self) -> u8
         ensures value { λ r. ⌜ r ≡ reason-number self ⌝ }
         ensures apart { λ r. ⌜ ((other : Reason) → reason-number other ≡ r → other ≡ self) ⌝ }
     {
-        self as u8
+        number_of_reason(self)
     }
 }
 
@@ -76,6 +88,6 @@ impl Layer {
         ensures value { λ r. ⌜ r ≡ layer-number self ⌝ }
         ensures apart { λ r. ⌜ ((other : Layer) → layer-number other ≡ r → other ≡ self) ⌝ }
     {
-        self as u8
+        number_of_layer(self)
     }
 }

@@ -9,11 +9,11 @@ use Rattle.field.proofs.binary.invert.Needs as need
 
 pub loop-i-holds : need.loop-i-holds
 unfolding inverse-of
-loop-i-holds c = ap (square-chain times 7 1) (c .multiply-power .ensures)
+loop-i-holds c = ap (square-chain times 7 1) (c .multiply-power .ensures .plain)
 
 pub loop-i-again : need.loop-i-again
 loop-i-again c =
-    ap₂ (square-chain times (7 - (c .loop-i .-i + 1))) (c .multiply-result .ensures) (c .multiply-power-in-loop-i .ensures)
+    ap₂ (square-chain times (7 - (c .loop-i .-i + 1))) (c .multiply-result .ensures .plain) (c .multiply-power-in-loop-i .ensures .plain)
     ∙ sym (chain-more times 7 (c .loop-i .-i) (c .loop-i .result) (c .loop-i .power) (search needs)) ∙ c .loop-i .inv
 
 pub returns : need.returns

@@ -5,7 +5,7 @@ use lib.Bits.{bitXor, xor-zero-r}
 use borrow.Author.Needs.{needs}
 use Rattle.field.specs.Binary.{times}
 use Rattle.field.proofs.BinaryLaws.{times-zero}
-use Rattle.field.proofs.Steps.{turn-sum, bit-fits, half-below}
+use Rattle.field.proofs.Steps.{turn-sum, bit-fits, half-below, mul-plain}
 use Rattle.field.proofs.binary.multiply.Needs as need
 
 pub mul-sum : need.mul-sum
@@ -29,4 +29,5 @@ returns c =
     let l = c .loop-i in
     let none : 8 - l .-i ≡ 0 = omega arith in
     let e : l .rest ≡ 0 = omega (arith, l .inv .3, ap (λ (m : ℕ). 2 ^ m) none) in
-    sym (ap (bitXor (l .sum)) (ap (times (l .shifted)) e ∙ times-zero (l .shifted)) ∙ xor-zero-r (l .sum)) ∙ l .inv .0
+    let plain = sym (ap (bitXor (l .sum)) (ap (times (l .shifted)) e ∙ times-zero (l .shifted)) ∙ xor-zero-r (l .sum)) ∙ l .inv .0 in
+    record { plain = plain; symbols = plain ∙ mul-plain (c .args .a) (c .args .b) (search needs) (search needs) }

@@ -1,6 +1,7 @@
 use mathlib.Core.Path.{_≡_, refl, sym, ap, ap₂, _∙_}
 use Prim.Native.Nat.{ℕ, _-_, _+_}
 use native.Mathlib.Omega.{arith}
+use native.Mathlib.Nat.{mod-mod}
 use borrow.Author.Needs.{needs}
 use Rattle.field.specs.Residues.{square-chain}
 use Rattle.field.specs.Prime.{times, inverse-of}
@@ -13,8 +14,11 @@ loop-i-holds c = refl
 
 pub loop-i-again : need.loop-i-again
 loop-i-again c =
-    ap₂ (square-chain times (8 - (c .loop-i .-i + 1))) (c .multiply-result .ensures) (c .multiply-power .ensures)
+    ap₂ (square-chain times (8 - (c .loop-i .-i + 1))) (c .multiply-result .ensures .plain) (c .multiply-power .ensures .plain)
     ∙ sym (chain-more times 8 (c .loop-i .-i) (c .loop-i .result) (c .loop-i .power) (search needs)) ∙ c .loop-i .inv
 
 pub returns : need.returns
-returns c = sym (chain-none times 8 (c .loop-i .-i) (c .loop-i .result) (c .loop-i .power) (search needs)) ∙ c .loop-i .inv
+unfolding inverse-of square-chain
+returns c =
+    sym (chain-none times 8 (c .loop-i .-i) (c .loop-i .result) (c .loop-i .power) (search needs)) ∙ c .loop-i .inv
+    ∙ sym (mod-mod _ 257)
