@@ -132,11 +132,10 @@ pub impl Field for Binary as BinaryField {
     }
 
     fn read(bytes: &[u8]) -> Option<u8> {
-        if bytes.len() == Self::WIDTH {
-            Some(bytes[0])
-        } else {
-            None
+        if bytes.len() != Self::WIDTH {
+            return None;
         }
+        Some(bytes[0])
     }
 
     fn write(out: &mut [u8], a: u8) -> bool {

@@ -1,6 +1,7 @@
 // The field of the numbers modulo 257.
 ghost use mathlib.Core.Path.{_≡_};
-ghost use Prim.Native.Nat.{ℕ};
+ghost use Prim.Native.Nat.{ℕ, _<_};
+ghost use Rattle.std.specs.Options.{Cases as BySome};
 ghost use Rattle.field.specs.Residues.{Below};
 ghost use Rattle.field.specs.Prime.{prime, symbol, times};
 use crate::Field;
@@ -30,6 +31,14 @@ fn invert(a: u16) -> u16
         power = multiply(power, power);
     }
     result
+}
+
+// The byte that stands for a symbol: all but 256 have one.
+fn byte_of(a: u16) -> Option<u8>
+    ensures { λ r. ⌜ BySome r ((b : ℕ) → b < 256 → prime .byte b ≡ symbol a → ⊥) (λ b. (b < 256) × (prime .byte b ≡ symbol a)) ⌝ }
+{
+    let r = a % 257;
+    if r < 256 { Some(r as u8) } else { None }
 }
 
 pub impl Field for Prime as PrimeField {
@@ -88,8 +97,7 @@ pub impl Field for Prime as PrimeField {
     }
 
     fn to_byte(a: u16) -> Option<u8> {
-        let r = a % 257;
-        if r < 256 { Some(r as u8) } else { None }
+        byte_of(a)
     }
 
     fn read(bytes: &[u8]) -> Option<u16> {

@@ -7,8 +7,8 @@ use borrow.Author.Needs.{needs}
 use Rattle.field.proofs.Steps.{one-is}
 use Rattle.field.proofs.binary.BinaryField.read.Needs as need
 
-pub returns-then-bytes-eq-WIDTH : need.returns-then-bytes-eq-WIDTH
-returns-then-bytes-eq-WIDTH c =
+pub returns : need.returns
+returns c =
     let h : getD (c .args .bytes .now) 0 0 < 256 = search needs in
     let e = mod-eq-of-lt h in
     (ap (λ (m : ℕ). m ∷ []) e ∙ one-is (c .args .bytes .now) (search needs), sym e)

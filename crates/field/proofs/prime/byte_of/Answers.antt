@@ -6,7 +6,7 @@ use borrow.Author.Needs.{needs}
 use Rattle.field.specs.Residues.{Below}
 use Rattle.field.proofs.Below.{same}
 use Rattle.field.specs.Prime.{symbol}
-use Rattle.field.proofs.prime.PrimeField.to_byte.Needs as need
+use Rattle.field.proofs.prime.byte_of.Needs as need
 
 pub returns-then-r-lt256 : need.returns-then-r-lt256
 returns-then-r-lt256 c = (search needs, same 257 (symbol (c .args .a % 257)) (symbol (c .args .a)) (mod-mod (c .args .a) 257))
