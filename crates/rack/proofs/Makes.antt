@@ -1,7 +1,7 @@
 -- From what the code's calls promise to what the program's shares are. Assumes nothing.
 use mathlib.Core.Path.{_≡_, sym, ap, subst, _∙_}
 use mathlib.Core.List.{List, [], _∷_, _++_}
-use Prim.Native.Nat.{ℕ, _+_, _-_, _≤_, _<_}
+use Prim.Native.Nat.{ℕ, _+_, _<_}
 use native.Mathlib.Omega.{arith}
 use lib.ListN.{length, getD, take, drop, length-append}
 use lib.Seq.{take-at}
@@ -14,19 +14,12 @@ use Rattle.code.specs.Calls.{Encoded}
 use Rattle.rack.specs.declared.shares.Share.{Share}
 use Rattle.rack.specs.Shares.{Made-share, All-made}
 
--- a payload ends within the buffer that it was written to
-pub payload-within : {E : Type 0} (F : Ops E) (k : ℕ) (file : List ℕ) (j : ℕ) (was now : List ℕ) (size : ℕ)
-    → Encoded F k file j was now size → size ≤ length now
-payload-within F k file j was now size e =
-    omega (arith, ap length (e .written), length-append (e .bytes) (drop size was), e .length-is)
-
 -- the start of the buffer is the share's payload
 pub payload-first : {E : Type 0} (F : Ops E) (k : ℕ) (file : List ℕ) (j : ℕ) (was now : List ℕ) (size : ℕ) (bytes : List ℕ)
-    → Encoded F k file j was now size → bytes ≡ take (size - 0) now → Payload F k file j bytes
+    → Encoded F k file j was now size → bytes ≡ take size now → Payload F k file j bytes
 payload-first F k file j was now size bytes e h =
-    let n : size - 0 ≡ size = omega arith in
     let first : take size now ≡ e .bytes = ap (take size) (e .written) ∙ take-at (e .bytes) (drop size was) size (sym (e .length-is)) in
-    subst (Payload F k file j) (sym (h ∙ ap (λ m. take m now) n ∙ first)) (e .payload)
+    subst (Payload F k file j) (sym (h ∙ first)) (e .payload)
 
 -- with one more share at the end, all shares of a list are still made
 pub made-more : (c : Code) (file : List ℕ) (xs ys : List Share) (x : Share) (n : ℕ)

@@ -25,9 +25,9 @@ pub struct Share {
 fn make_share(heap: Global, code: Code, file: &[u8], number: usize) -> Result<Share, Failure>
     ensures { λ r. ⌜ made r (λ share. Made-share code (now (file .entry)) number share) ⌝ }
 {
-    let mut buffer = [0u8; PAYLOAD_LIMIT];
-    let size = code.encode(file, number, &mut buffer)?;
-    let payload = Vec::from_slice(heap, &buffer[0..size])?;
+    let mut payload = vec![in heap; 0u8; PAYLOAD_LIMIT]?;
+    let size = code.encode(file, number, payload.as_mut_slice())?;
+    payload.truncate(size);
     Ok(Share { number, payload })
 }
 

@@ -1,7 +1,4 @@
 // How long it takes to make shares.
-ghost use mathlib.Core.Path.{_≡_};
-ghost use Rattle.std.specs.Of.Vec.{vec-len};
-ghost use Rattle.std.specs.Vec.{made};
 use crate::check::fnv1a;
 use crate::failure::Failure;
 use crate::failure::FailureFromAlloc;
@@ -9,7 +6,6 @@ use crate::failure::FailureFromFault;
 use crate::failure::FailureFromIo;
 use crate::failure::FailureFromRefused;
 use code::Code;
-use std::alloc::Global;
 use std::time::Instant;
 
 // The number of blocks, and of the shares that are made.
@@ -21,36 +17,22 @@ const N: usize = 32;
 // The bytes of a payload.
 const PAYLOAD: usize = 1024;
 
-// The bytes of the payloads of k shares.
-const PAYLOADS: usize = 16384;
-
 // How often the time is taken.
 const ROUNDS: usize = 21;
 
 // How often the shares are made in a round.
 const REPEATS: u64 = 20;
 
-// A file for the measurement, of bytes that look random and are the same in each run.
-fn sample(heap: Global, len: usize) -> Result<Vec<u8>, Failure>
-    ensures { λ r. ⌜ made r (λ v. vec-len v ≡ len) ⌝ }
-{
-    let mut bytes = Vec::new(heap);
-    let mut state: u32 = 2463534242;
-    for _ in 0..len {
-        state = state.wrapping_mul(1664525).wrapping_add(1013904223);
-        bytes.push((state >> 24) as u8)?;
-    }
-    Ok(bytes)
+// Makes one share.
+fn make_share(code: Code, file: &[u8], share: usize, payload: &mut [u8]) -> Result<(), Failure> {
+    code.encode(file, share, payload)?;
+    Ok(())
 }
 
-// Makes the shares from number k on, and puts their payloads one after another.
-fn make_shares(code: Code, file: &[u8], payloads: &mut [u8; PAYLOADS]) -> Result<(), Failure> {
-    for i in 0..K {
-        code.encode(
-            file,
-            K + i,
-            &mut payloads[i * PAYLOAD..i * PAYLOAD + PAYLOAD],
-        )?;
+// Makes the shares from number k on, one after another into the same buffer.
+fn make_shares(code: Code, file: &[u8], payload: &mut [u8]) -> Result<(), Failure> {
+    for share in K..N {
+        make_share(code, file, share, payload)?;
     }
     Ok(())
 }
@@ -60,11 +42,11 @@ fn time_round(
     rt: &LibcRuntime,
     code: Code,
     file: &[u8],
-    payloads: &mut [u8; PAYLOADS],
+    payload: &mut [u8],
 ) -> Result<u64, Failure> {
     let start = Instant::now(rt)?;
     for _ in 0..REPEATS {
-        make_shares(code, file, payloads)?;
+        make_shares(code, file, payload)?;
     }
     let nanos = start.elapsed(rt)?.as_nanos();
     Ok(u64::try_from(nanos).unwrap_or(u64::MAX) / REPEATS)
@@ -75,12 +57,12 @@ fn time_rounds(
     rt: &LibcRuntime,
     code: Code,
     file: &[u8],
-    payloads: &mut [u8; PAYLOADS],
+    payload: &mut [u8],
 ) -> Result<Vec<u64>, Failure> {
-    let _warm_up = time_round(rt, code, file, payloads)?;
+    let _warm_up = time_round(rt, code, file, payload)?;
     let mut times = Vec::new(rt.alloc());
     for _ in 0..ROUNDS {
-        times.push(time_round(rt, code, file, payloads)?)?;
+        times.push(time_round(rt, code, file, payload)?)?;
     }
     times.sort();
     Ok(times)
@@ -89,12 +71,12 @@ fn time_rounds(
 // Measures one field with a file of this length, and prints the smallest and the median time.
 fn measure(rt: &LibcRuntime, field: usize, len: usize) -> Result<(), Failure> {
     let code = Code::new(field, K, K, N)?;
-    let file = sample(rt.alloc(), len)?;
-    let mut payloads = [0u8; PAYLOADS];
-    let times = time_rounds(rt, code, file.as_slice(), &mut payloads)?;
+    let file = vec![in rt.alloc(); 0xA5u8; len]?;
+    let mut payload = vec![in rt.alloc(); 0u8; PAYLOAD]?;
+    let times = time_rounds(rt, code, file.as_slice(), payload.as_mut_slice())?;
     let smallest = times.first().copied().unwrap_or(0) / 1000;
     let median = times.get(ROUNDS / 2).copied().unwrap_or(0) / 1000;
-    let sum = fnv1a(&payloads);
+    let sum = fnv1a(payload.as_slice());
     let block = len / K;
     println!(
         rt,
@@ -102,7 +84,7 @@ fn measure(rt: &LibcRuntime, field: usize, len: usize) -> Result<(), Failure> {
     )?;
     println!(
         rt,
-        "  smallest {smallest} us, median {median} us, check sum {sum:#018x}"
+        "  smallest {smallest} us, median {median} us, the last payload's check sum {sum:#018x}"
     )?;
     Ok(())
 }
