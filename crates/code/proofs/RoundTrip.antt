@@ -106,9 +106,9 @@ module _ {E : Type 0} (F : Ops E) (L : Laws F) where
         → Recovers F (record { field = field; k = k; h = h; n = n }) (length file) shares payloads was now r → length file ≤ length was
         → (Rattle.std.specs.Results.isOk r ≡ true) × (now ≡ file ++ drop (length file) was)
     unfolding B
-    restored was now (Ok x) field h a room = (refl, a .1 .written ∙ ap (λ (f : List ℕ). f ++ drop (length file) was) (sym (a .1 .only file file-decodes)))
-    restored was now (Err e) field h (told, same) room = absurd (
-        elim told [
+    restored was now (Ok x) field h a room = (refl, a .answer .1 .written ∙ ap (λ (f : List ℕ). f ++ drop (length file) was) (sym (a .answer .1 .only file file-decodes)))
+    restored was now (Err e) field h a room = absurd (
+        elim (a .answer .0) [
           | inl w ↦ w .0 (of .lengths)
           | inr t ↦ elim (t .1) [
             | inl w ↦ w .0 (of .different)
@@ -125,7 +125,9 @@ module _ {E : Type 0} (F : Ops E) (L : Laws F) where
   -- any k different shares of a file decode to exactly that file
   pub gives-back : (c : Numbers) (len : ℕ) (shares payloads was now : List ℕ) (r : Result (Unit {0}) Fault) → 1 ≤ c .k → c .k ≤ 32 → c .n ≤ 32
       → Recovers F c len shares payloads was now r → Gives-back F c len shares payloads was now r
-  gives-back c len shares payloads was now r some few small a file bytes e of room =
-      subst
-      (λ (m : ℕ). Recovers F c m shares payloads was now r → m ≤ length was → (Rattle.std.specs.Results.isOk r ≡ true) × (now ≡ file ++ drop m was)) e
-      (λ a′ room′. restored (c .k) (c .n) file shares payloads some few small bytes of was now r (c .field) (c .h) a′ room′) a room
+  gives-back c len shares payloads was now r some few small a = record {
+    back = λ file bytes e of room.
+        subst
+        (λ (m : ℕ). Recovers F c m shares payloads was now r → m ≤ length was → (Rattle.std.specs.Results.isOk r ≡ true) × (now ≡ file ++ drop m was)) e
+        (λ a′ room′. restored (c .k) (c .n) file shares payloads some few small bytes of was now r (c .field) (c .h) a′ room′) a room;
+  }

@@ -38,10 +38,9 @@ pub record Encoded {E : Type 0} (F : Ops E) (k : ℕ) (file : List ℕ) (j : ℕ
   pub written : now ≡ bytes ++ drop size was
 
 -- what encode answers, and the buffer after it
-abbrev pub Encodes : {E : Type 0} → Ops E → Numbers → (file : List ℕ) (j : ℕ) (was now : List ℕ) → Result ℕ Fault → Type 0
-Encodes F c file j was now r =
-    Answers (encode-grounds (F .width) (c .k) (c .n) (length file) j (length was)) refusal-of r
-    (Encoded F (c .k) file j was now) (λ _. now ≡ was)
+pub record Encodes {E : Type 0} (F : Ops E) (c : Numbers) (file : List ℕ) (j : ℕ) (was now : List ℕ) (r : Result ℕ Fault) : Type 0 where
+  pub answer : Answers (encode-grounds (F .width) (c .k) (c .n) (length file) j (length was)) refusal-of r
+      (Encoded F (c .k) file j was now) (λ _. now ≡ was)
 
 -- why decode refuses these shares of a file of L bytes, with a buffer of this room
 abbrev pub decode-grounds : {E : Type 0} → Ops E → (k n L : ℕ) (shares payloads : List ℕ) (room : ℕ) → List Ground
@@ -60,7 +59,6 @@ pub record Decoded {E : Type 0} (F : Ops E) (k L : ℕ) (shares payloads was now
   pub written : now ≡ file ++ drop L was
 
 -- what decode answers, and the buffer after it
-abbrev pub Recovers : {E : Type 0} → Ops E → Numbers → (L : ℕ) (shares payloads was now : List ℕ) → Result (Unit {0}) Fault → Type 0
-Recovers F c L shares payloads was now r =
-    Answers (decode-grounds F (c .k) (c .n) L shares payloads (length was)) refusal-of r
-    (λ _. Decoded F (c .k) L shares payloads was now) (λ _. now ≡ was)
+pub record Recovers {E : Type 0} (F : Ops E) (c : Numbers) (L : ℕ) (shares payloads was now : List ℕ) (r : Result (Unit {0}) Fault) : Type 0 where
+  pub answer : Answers (decode-grounds F (c .k) (c .n) L shares payloads (length was)) refusal-of r
+      (λ _. Decoded F (c .k) L shares payloads was now) (λ _. now ≡ was)

@@ -26,7 +26,6 @@ One-payload F =
     → (bytes : List ℕ) × Payload F k file j bytes × ((other : List ℕ) → Payload F k file j other → other ≡ bytes)
 
 -- any k different shares of a file decode to exactly that file: decode then refuses nothing but a short buffer
-abbrev pub Gives-back : {E : Type 0} → Ops E → Numbers → (L : ℕ) (shares payloads was now : List ℕ) → Result (Unit {0}) Fault → Type 0
-Gives-back F c L shares payloads was now r =
-    (file : List ℕ) → Bytes file → length file ≡ L → Shares-of F (c .k) (c .n) file shares payloads → L ≤ length was
-    → (isOk r ≡ true) × (now ≡ file ++ drop L was)
+pub record Gives-back {E : Type 0} (F : Ops E) (c : Numbers) (L : ℕ) (shares payloads was now : List ℕ) (r : Result (Unit {0}) Fault) : Type 0 where
+  pub back : (file : List ℕ) → Bytes file → length file ≡ L → Shares-of F (c .k) (c .n) file shares payloads → L ≤ length was
+      → (isOk r ≡ true) × (now ≡ file ++ drop L was)

@@ -64,7 +64,7 @@ returns-then-not-read-symbols g c =
     let at = need.at·returns-then-not-read-symbols g c .Else-out-len in
     let bad = c .if-not-read-symbols .ensures tt in
     let some = block-some (c .args .len) (c .k-k .result) (c .in-Some .block) (known g at .2) (c .in-Some .ensures tt .1 .some) in
-    (told g at (inl (outside-at (g .F·Field .model) (c .k-k .result) (c .in-Some .block) (bad .0) (c .args .payloads .now) (bad .1) some (bad .2))), refl)
+    record { answer = (told g at (inl (outside-at (g .F·Field .model) (c .k-k .result) (c .in-Some .block) (bad .0) (c .args .payloads .now) (bad .1) some (bad .2))), refl) }
 
 -- the points of the shares
 size : (g : given.Over) (c : After-points-of-points g) → length (take (c .k-k .result - 0) (c .points-of-points .result)) ≡ c .k-k .result
@@ -100,12 +100,15 @@ returns-then-not-decode-blocks g c =
     let B = c .in-Some .block in
     let pts = take (k - 0) (c .points-of-points .result) in
     let small : c .n .result ≤ 32 = omega (arith, c .n .ensures, c .args .code .numbers) in
-    let bad = c .if-not-decode-blocks .ensures tt in (
-      told g at (inr (no-byte o (g .F·Field·met .lawful) (f .elem) (f .sym) (g .F·Field·met .recovers) z (c .n .result) k B (c .args .shares .now) (c .args .payloads .now) pts (c .read-symbols .last .symbols)
-          small (c .if-shares-k .left) (c .if-not-are-different .ensures tt) (size g far) (points g far) (c .if-not-read-symbols .ensures tt)
-          (c .args .len) (bad .0) (bad .1) (bad .2) (bad .3) (bad .4))),
-      refl,
-    )
+    let bad = c .if-not-decode-blocks .ensures tt in
+    record {
+      answer = (
+        told g at (inr (no-byte o (g .F·Field·met .lawful) (f .elem) (f .sym) (g .F·Field·met .recovers) z (c .n .result) k B (c .args .shares .now) (c .args .payloads .now) pts (c .read-symbols .last .symbols)
+            small (c .if-shares-k .left) (c .if-not-are-different .ensures tt) (size g far) (points g far) (c .if-not-read-symbols .ensures tt)
+            (c .args .len) (bad .0) (bad .1) (bad .2) (bad .3) (bad .4))),
+        refl,
+      );
+    }
 
 pub part-copy-from-slice-end-2 : need.part-copy-from-slice-end-2
 part-copy-from-slice-end-2 g c =
@@ -149,8 +152,11 @@ returns g c =
       only = λ other d. decodes-one o (g .F·Field·met .lawful) (c .n .result) k (c .args .len) (c .args .shares .now) (c .args .payloads .now) some small (c .if-shares-k .left) (c .if-not-are-different .ensures tt)
           (take (c .args .len) found) other right d;
       written = ap₂ _++_ (c .copy-from-slice .ensures .after ∙ ap (λ (n : ℕ). take n found) front) (ap (λ (n : ℕ). drop n (c .args .out .now)) front);
-    } in (
-      subst (λ (k : ℕ). Clear (decode-grounds o k (c .args .code .n) (c .args .len) (c .args .shares .now) (c .args .payloads .now) (length (c .args .out .now)))) (c .k-k .ensures)
-          (subst (λ (n : ℕ). Clear (decode-grounds o k n (c .args .len) (c .args .shares .now) (c .args .payloads .now) (length (c .args .out .now)))) (c .n .ensures) clear),
-      subst (λ (k : ℕ). Decoded o k (c .args .len) (c .args .shares .now) (c .args .payloads .now) (c .args .out .now) now) (c .k-k .ensures) decoded,
-    )
+    } in
+    record {
+      answer = (
+        subst (λ (k : ℕ). Clear (decode-grounds o k (c .args .code .n) (c .args .len) (c .args .shares .now) (c .args .payloads .now) (length (c .args .out .now)))) (c .k-k .ensures)
+            (subst (λ (n : ℕ). Clear (decode-grounds o k n (c .args .len) (c .args .shares .now) (c .args .payloads .now) (length (c .args .out .now)))) (c .n .ensures) clear),
+        subst (λ (k : ℕ). Decoded o k (c .args .len) (c .args .shares .now) (c .args .payloads .now) (c .args .out .now) now) (c .k-k .ensures) decoded,
+      );
+    }

@@ -85,10 +85,13 @@ returns g c =
       written = c .store .ensures ∙ ap (λ (n : ℕ). bytes ++ drop (block * n) (c .args .out .now)) (sym wide);
     } in
     let due : block * c .stored-width .result ≡ block-length (length file) (c .args .code .k) * o .width =
-    ap₂ (λ (b w : ℕ). b * w) (made .0 ∙ ap (block-length (length file)) ek) wide in (
-      (
-        (λ unsized. unsized (subst (λ (k : ℕ). Sized (length file) k (o .width)) ek (made .1))),
-        ((λ over. absurd (omega (arith, c .n .ensures))), ((λ short. absurd (omega (arith, due))), tt)),
-      ),
-      subst (λ (k : ℕ). Encoded o k file share (c .args .out .now) (c .store .last .out) (block * c .stored-width .result)) ek encoded,
-    )
+    ap₂ (λ (b w : ℕ). b * w) (made .0 ∙ ap (block-length (length file)) ek) wide in
+    record {
+      answer = (
+        (
+          (λ unsized. unsized (subst (λ (k : ℕ). Sized (length file) k (o .width)) ek (made .1))),
+          ((λ over. absurd (omega (arith, c .n .ensures))), ((λ short. absurd (omega (arith, due))), tt)),
+        ),
+        subst (λ (k : ℕ). Encoded o k file share (c .args .out .now) (c .store .last .out) (block * c .stored-width .result)) ek encoded,
+      );
+    }

@@ -16,6 +16,6 @@ returns c =
     let vec = c .in-Continue-payload .payload in
     let wide : length out ≡ vec .len = c .encode .kept .out ∙ c .as-mut-slice .ensures .len in (
       refl,
-      payload-first _ _ _ _ _ _ _ _ (c .in-Continue-size .ensures tt .1)
+      payload-first _ _ _ _ _ _ _ _ (c .in-Continue-size .ensures tt .answer .1)
           (c .truncate .ensures .items ∙ ap (take (c .in-Continue-size .size)) (take-at out (drop (length out) (vec .items)) (vec .len) wide)),
     )

@@ -15,7 +15,7 @@ returns c =
       λ file bytes size shares.
           let room = c .as-mut-slice .result .now in
           let wide : length room ≡ c .args .len = slice .len ∙ made in
-          let written = decoded .restores file bytes size shares (omega (arith, wide)) .1 in
+          let written = decoded .restores .back file bytes size shares (omega (arith, wide)) .1 in
           let rest : file ++ drop (c .args .len) room ≡ file = ap (λ xs. file ++ xs) (drop-all (c .args .len) room (omega (arith, wide))) ∙ append-nil file in
           let whole : c .decode .last .out ≡ file = cc in
           take-at (c .decode .last .out) (drop (length (c .decode .last .out)) (c .in-Continue-file .file .items)) (c .in-Continue-file .file .len)
