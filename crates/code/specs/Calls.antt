@@ -6,7 +6,8 @@ use Prim.Native.Nat.{ℕ, _*_, _≤_, _<_}
 use lib.ListN.{length, drop}
 use Rattle.std.specs.declared.result.Result.{Result}
 use Rattle.refusal.specs.declared.Fault.{Fault}
-use Rattle.refusal.specs.Refusals.{Refusal, refusal, refusal-of}
+use Rattle.refusal.specs.declared.Layer.the-variants.{Code}
+use Rattle.refusal.specs.Refusals.{Refusal, refusal, refusal-of, layer-number}
 use Rattle.refusal.specs.Grounds.{Ground, ground, Answers}
 use Rattle.field.specs.Model.{Ops}
 use Rattle.code.specs.Shares.{block-length, Sized, Payload}
@@ -15,7 +16,7 @@ use Rattle.code.specs.Codes.{Numbers, Proper}
 
 -- a refusal of the layer code, with this number and no detail
 abbrev pub by-code : ℕ → Refusal
-by-code number = refusal number 2 0
+by-code number = refusal number (layer-number Code) 0
 
 -- a code is refused with numbers that no code has
 abbrev pub code-grounds : Numbers → List Ground

@@ -13,6 +13,7 @@ use crate::interpolation::interpolate;
 use crate::interpolation::points_of;
 use crate::shape::Code;
 use crate::shape::FieldChoice;
+use crate::shape::calls::refuse;
 use crate::symbols::block_of;
 use crate::symbols::bytes_of;
 use crate::symbols::read_symbols;
@@ -22,7 +23,6 @@ use field::binary::BinaryField;
 use field::prime::Prime;
 use field::prime::PrimeField;
 use refusal::Fault;
-use refusal::Layer;
 use refusal::Reason;
 
 // Are the share numbers below n, and no two equal?
@@ -94,48 +94,27 @@ fn decode_with<F: Field>(
 {
     let k = code.k();
     let Some(block) = block_of::<F>(len, k) else {
-        return Err(Fault {
-            reason: Reason::BadLength,
-            layer: Layer::Code,
-            detail: 0,
-        });
+        return Err(refuse(Reason::BadLength));
     };
-    if shares.len() != k || payloads.len() != k * (block * F::stored_width()) {
-        return Err(Fault {
-            reason: Reason::BadLength,
-            layer: Layer::Code,
-            detail: 0,
-        });
+    if shares.len() != k {
+        return Err(refuse(Reason::BadLength));
+    }
+    if payloads.len() != k * (block * F::stored_width()) {
+        return Err(refuse(Reason::BadLength));
     }
     if !are_different(code.n(), shares) {
-        return Err(Fault {
-            reason: Reason::BadShare,
-            layer: Layer::Code,
-            detail: 0,
-        });
+        return Err(refuse(Reason::BadShare));
     }
     if out.len() < len {
-        return Err(Fault {
-            reason: Reason::ShortBuffer,
-            layer: Layer::Code,
-            detail: 0,
-        });
+        return Err(refuse(Reason::ShortBuffer));
     }
     if !read_symbols::<F>(payloads, k * block, symbols) {
-        return Err(Fault {
-            reason: Reason::BadSymbol,
-            layer: Layer::Code,
-            detail: 0,
-        });
+        return Err(refuse(Reason::BadSymbol));
     }
     let points = points_of::<F>(shares);
     let all = &points[..];
     if !decode_blocks::<F>(&all[0..k], symbols, block, len, sums, found) {
-        return Err(Fault {
-            reason: Reason::BadSymbol,
-            layer: Layer::Code,
-            detail: 0,
-        });
+        return Err(refuse(Reason::BadSymbol));
     }
     out[0..len].copy_from_slice(&found[0..len]);
     Ok(())

@@ -8,6 +8,7 @@ use crate::interpolation::interpolate;
 use crate::interpolation::points_of;
 use crate::shape::Code;
 use crate::shape::FieldChoice;
+use crate::shape::calls::refuse;
 use crate::symbols::block_of;
 use crate::symbols::load_file;
 use crate::symbols::store;
@@ -17,7 +18,6 @@ use field::binary::BinaryField;
 use field::prime::Prime;
 use field::prime::PrimeField;
 use refusal::Fault;
-use refusal::Layer;
 use refusal::Reason;
 
 const FIRST: [usize; 16] = [0, 1, 2, 3, 4, 5, 6, 7, 8, 9, 10, 11, 12, 13, 14, 15];
@@ -37,26 +37,14 @@ fn encode_with<F: Field>(
 {
     let k = code.k();
     let Some(block) = block_of::<F>(file.len(), k) else {
-        return Err(Fault {
-            reason: Reason::BadLength,
-            layer: Layer::Code,
-            detail: 0,
-        });
+        return Err(refuse(Reason::BadLength));
     };
     if share >= code.n() {
-        return Err(Fault {
-            reason: Reason::BadShare,
-            layer: Layer::Code,
-            detail: 0,
-        });
+        return Err(refuse(Reason::BadShare));
     }
     let size = block * F::stored_width();
     if out.len() < size {
-        return Err(Fault {
-            reason: Reason::ShortBuffer,
-            layer: Layer::Code,
-            detail: 0,
-        });
+        return Err(refuse(Reason::ShortBuffer));
     }
     let Some(point) = F::point(share) else {
         unreachable()

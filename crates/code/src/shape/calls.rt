@@ -10,17 +10,24 @@ use refusal::Fault;
 use refusal::Layer;
 use refusal::Reason;
 
+// A refusal of the layer code, which has no detail.
+pub(crate) fn refuse(reason: Reason) -> Fault
+    ensures { λ r. ⌜ r ≡ record { reason = reason; layer = Layer.Code; detail = 0 } ⌝ }
+{
+    Fault {
+        reason,
+        layer: Layer::Code,
+        detail: 0,
+    }
+}
+
 impl Code {
     // The code with these numbers, or a refusal: there is no code with others.
     pub fn new(field: usize, k: usize, h: usize, n: usize) -> Result<Code, Fault>
         ensures { λ r. ⌜ Answers (code-grounds (numbered field k h n)) refusal-of r (λ c. numbers c ≡ numbered field k h n) (λ _. Unit {0}) ⌝ }
     {
         if field > 1 || k < 1 || k > 16 || k > h || h > n || n > 32 {
-            return Err(Fault {
-                reason: Reason::BadCode,
-                layer: Layer::Code,
-                detail: 0,
-            });
+            return Err(refuse(Reason::BadCode));
         }
         let field = if field == 0 {
             FieldChoice::Binary

@@ -6,7 +6,12 @@ use native.Mathlib.Omega.{arith}
 use lib.ListN.{length, getD, take, drop}
 use borrow.Author.Needs.{needs}
 use Rattle.std.proofs.shelf.Lists.{getD-take, length-take-le}
+use Rattle.refusal.specs.declared.Fault.{Fault}
+use Rattle.refusal.specs.declared.Reason.the-variants.{BadSymbol}
+use Rattle.refusal.specs.declared.Layer.the-variants.{Code}
+use Rattle.refusal.specs.Refusals.{refusal-of}
 use Rattle.refusal.specs.Grounds.{Told, Clear}
+use Rattle.code.specs.Shares.{Sized, block-length}
 use Rattle.code.specs.Decoding.{Lengths, Different, Outside, No-byte}
 use Rattle.code.specs.Calls.{by-code, decode-grounds, Decoded}
 use Rattle.code.proofs.Blocks.{sizes, block-some}
@@ -14,6 +19,13 @@ use Rattle.code.proofs.Decodings.{reckoned, no-byte, inside, decodes, decodes-
 use Rattle.code.proofs.decoding.decode_with.Given as given
 use Rattle.code.proofs.decoding.decode_with.Needs as need
 use Rattle.code.proofs.decoding.decode_with.Needs.{Else-out-len, After-points-of-points}
+
+-- the lengths, with the numbers as the code reads them
+lengths-at : (len k code-k block w width : ℕ) (shares payloads : List ℕ) → k ≡ code-k → (block ≡ block-length len k) × Sized len k width → w ≡ width
+    → length shares ≡ k → length payloads ≡ k * (block * w) → Lengths len code-k width shares payloads
+lengths-at len k code-k block w width shares payloads ek made ew count whole =
+    subst (λ (k : ℕ). Lengths len k width shares payloads) ek
+    (record { sized = made .1; count = count; whole = whole ∙ ap₂ (λ (b v : ℕ). k * (b * v)) (made .0) ew })
 
 -- the numbers of the code and of the file
 known : (g : given.Over) (c : Else-out-len g)
@@ -28,22 +40,64 @@ whole : (g : given.Over) (c : Else-out-len g) → length (c .args .payloads .now
 whole g c = c .if-payloads-k .left ∙ ap (λ (w : ℕ). c .k-k .result * (c .in-Some .block * w)) (c .stored-width .ensures)
 
 lengths : (g : given.Over) (c : Else-out-len g) → Lengths (c .args .len) (c .k-k .result) (g .F·Field .model .width) (c .args .shares .now) (c .args .payloads .now)
-lengths g c = record {
-  sized = c .in-Some .ensures tt .1;
-  count = c .if-shares-k .left;
-  whole = whole g c ∙ ap (λ (b : ℕ). c .k-k .result * (b * g .F·Field .model .width)) (c .in-Some .ensures tt .0);
-}
+lengths g c =
+    lengths-at (c .args .len) (c .k-k .result) (c .k-k .result) (c .in-Some .block) (c .stored-width .result) (g .F·Field .model .width) (c .args .shares .now) (c .args .payloads .now)
+    refl (c .in-Some .ensures tt) (c .stored-width .ensures) (c .if-shares-k .left) (c .if-payloads-k .left)
 
 -- a bad symbol is told
-told : (g : given.Over) (c : Else-out-len g)
+told : (g : given.Over) (c : Else-out-len g) (f : Fault) → f ≡ record { reason = BadSymbol; layer = Code; detail = 0 }
     → Outside (g .F·Field .model) (c .k-k .result) (c .in-Some .block) (c .args .payloads .now) ⊎ No-byte (g .F·Field .model) (c .k-k .result) (c .in-Some .block) (c .args .len) (c .args .shares .now) (c .args .payloads .now)
-    → Told (decode-grounds (g .F·Field .model) (c .args .code .k) (c .args .code .n) (c .args .len) (c .args .shares .now) (c .args .payloads .now) (length (c .args .out .now))) (by-code 14)
-told g c bad =
+    → Told (decode-grounds (g .F·Field .model) (c .args .code .k) (c .args .code .n) (c .args .len) (c .args .shares .now) (c .args .payloads .now) (length (c .args .out .now))) (refusal-of f)
+told g c f e bad =
     let o = g .F·Field .model in
-    subst (λ (k : ℕ). Told (decode-grounds o k (c .args .code .n) (c .args .len) (c .args .shares .now) (c .args .payloads .now) (length (c .args .out .now))) (by-code 14)) (c .k-k .ensures)
+    subst (λ (f : Fault). Told (decode-grounds o (c .args .code .k) (c .args .code .n) (c .args .len) (c .args .shares .now) (c .args .payloads .now) (length (c .args .out .now))) (refusal-of f)) (sym e)
+    (subst (λ (k : ℕ). Told (decode-grounds o k (c .args .code .n) (c .args .len) (c .args .shares .now) (c .args .payloads .now) (length (c .args .out .now))) (by-code 14)) (c .k-k .ensures)
     (subst (λ (n : ℕ). Told (decode-grounds o (c .k-k .result) n (c .args .len) (c .args .shares .now) (c .args .payloads .now) (length (c .args .out .now))) (by-code 14)) (c .n .ensures)
     (told-bad o (c .k-k .result) (c .n .result) (c .args .len) (c .in-Some .block) (c .args .shares .now) (c .args .payloads .now) (length (c .args .out .now))
-    (c .in-Some .ensures tt .0) (lengths g c) (c .if-not-are-different .ensures tt) (c .if-out-len .left) bad))
+    (c .in-Some .ensures tt .0) (lengths g c) (c .if-not-are-different .ensures tt) (c .if-out-len .left) bad)))
+
+pub returns-in-rest : need.returns-in-rest
+returns-in-rest g c =
+    let bad = c .in-rest .ensures tt in
+    let w = g .F·Field .model .width in
+    record { answer = (inl ((λ l. bad (subst (λ (k : ℕ). Sized (c .args .len) k w) (sym (c .k-k .ensures)) (l .sized))), ap refusal-of (c .refuse .ensures)), refl) }
+
+pub returns-then-shares-k : need.returns-then-shares-k
+returns-then-shares-k g c =
+    record { answer = (inl ((λ l. c .if-shares-k .taken (l .count ∙ sym (c .k-k .ensures))), ap refusal-of (c .refuse-then-shares-k .ensures)), refl) }
+
+pub returns-then-payloads-k : need.returns-then-payloads-k
+returns-then-payloads-k g c =
+    let due : c .k-k .result * (c .in-Some .block * c .stored-width .result) ≡ c .args .code .k * (block-length (c .args .len) (c .args .code .k) * g .F·Field .model .width) =
+    ap₂ (λ (k x : ℕ). k * x) (c .k-k .ensures) (ap₂ (λ (b w : ℕ). b * w) (c .in-Some .ensures tt .0 ∙ ap (block-length (c .args .len)) (c .k-k .ensures)) (c .stored-width .ensures)) in
+    record { answer = (inl ((λ l. c .if-payloads-k .taken (l .whole ∙ sym due)), ap refusal-of (c .refuse-then-payloads-k .ensures)), refl) }
+
+pub returns-then-not-are-different : need.returns-then-not-are-different
+returns-then-not-are-different g c =
+    let bad = c .if-not-are-different .ensures tt in
+    let long = lengths-at (c .args .len) (c .k-k .result) (c .args .code .k) (c .in-Some .block) (c .stored-width .result) (g .F·Field .model .width) (c .args .shares .now) (c .args .payloads .now)
+    (c .k-k .ensures) (c .in-Some .ensures tt) (c .stored-width .ensures) (c .if-shares-k .left) (c .if-payloads-k .left) in
+    record {
+      answer = (
+        inr (
+          (λ not. not long),
+          inl ((λ d. bad (subst (λ (n : ℕ). Different n (c .args .shares .now)) (sym (c .n .ensures)) d)), ap refusal-of (c .refuse-then-not-are-different .ensures)),
+        ),
+        refl,
+      );
+    }
+
+pub returns-then-out-len : need.returns-then-out-len
+returns-then-out-len g c =
+    let different = subst (λ (n : ℕ). Different n (c .args .shares .now)) (c .n .ensures) (c .if-not-are-different .ensures tt) in
+    let long = lengths-at (c .args .len) (c .k-k .result) (c .args .code .k) (c .in-Some .block) (c .stored-width .result) (g .F·Field .model .width) (c .args .shares .now) (c .args .payloads .now)
+    (c .k-k .ensures) (c .in-Some .ensures tt) (c .stored-width .ensures) (c .if-shares-k .left) (c .if-payloads-k .left) in
+    record {
+      answer = (
+        inr ((λ not. not long), inr ((λ not. not different), inl (c .if-out-len .taken, ap refusal-of (c .refuse-then-out-len .ensures)))),
+        refl,
+      );
+    }
 
 pub mul-k-2 : need.mul-k-2
 mul-k-2 g c = omega (arith, known g c)
@@ -64,7 +118,7 @@ returns-then-not-read-symbols g c =
     let at = need.at·returns-then-not-read-symbols g c .Else-out-len in
     let bad = c .if-not-read-symbols .ensures tt in
     let some = block-some (c .args .len) (c .k-k .result) (c .in-Some .block) (known g at .2) (c .in-Some .ensures tt .1 .some) in
-    record { answer = (told g at (inl (outside-at (g .F·Field .model) (c .k-k .result) (c .in-Some .block) (bad .0) (c .args .payloads .now) (bad .1) some (bad .2))), refl) }
+    record { answer = (told g at (c .refuse-then-not-read-symbols .result) (c .refuse-then-not-read-symbols .ensures) (inl (outside-at (g .F·Field .model) (c .k-k .result) (c .in-Some .block) (bad .0) (c .args .payloads .now) (bad .1) some (bad .2))), refl) }
 
 -- the points of the shares
 size : (g : given.Over) (c : After-points-of-points g) → length (take (c .k-k .result - 0) (c .points-of-points .result)) ≡ c .k-k .result
@@ -103,7 +157,7 @@ returns-then-not-decode-blocks g c =
     let bad = c .if-not-decode-blocks .ensures tt in
     record {
       answer = (
-        told g at (inr (no-byte o (g .F·Field·met .lawful) (f .elem) (f .sym) (g .F·Field·met .recovers) z (c .n .result) k B (c .args .shares .now) (c .args .payloads .now) pts (c .read-symbols .last .symbols)
+        told g at (c .refuse-then-not-decode-blocks .result) (c .refuse-then-not-decode-blocks .ensures) (inr (no-byte o (g .F·Field·met .lawful) (f .elem) (f .sym) (g .F·Field·met .recovers) z (c .n .result) k B (c .args .shares .now) (c .args .payloads .now) pts (c .read-symbols .last .symbols)
             small (c .if-shares-k .left) (c .if-not-are-different .ensures tt) (size g far) (points g far) (c .if-not-read-symbols .ensures tt)
             (c .args .len) (bad .0) (bad .1) (bad .2) (bad .3) (bad .4))),
         refl,

@@ -1,10 +1,12 @@
-use mathlib.Core.Path.{_≡_, sym, ap, ap₂, subst, _∙_}
+use mathlib.Core.Path.{_≡_, refl, sym, ap, ap₂, subst, _∙_}
 use mathlib.Core.List.{_++_}
+use mathlib.Core.Logic.{inl, inr}
 use Prim.Native.Nat.{ℕ, _+_, _-_, _*_, _≤_, _<_}
 use native.Mathlib.Omega.{arith}
 use lib.ListN.{length, getD, take, drop}
 use borrow.Author.Needs.{needs}
 use Rattle.std.proofs.shelf.Lists.{getD-take, length-take-le}
+use Rattle.refusal.specs.Refusals.{refusal-of}
 use Rattle.code.specs.Lagrange.{entry}
 use Rattle.code.specs.Shares.{Sized, block-length, serial}
 use Rattle.code.specs.Calls.{Encoded}
@@ -23,6 +25,30 @@ known g c =
     let e = c .k-k .ensures in
     sizes (g .F·Field .model) (g .F·Field·met .lawful) (length (c .args .file .now)) (c .k-k .result) (c .in-Some .block)
     (omega (arith, e, c .args .code .numbers)) (omega (arith, e, c .args .code .numbers)) (c .in-Some .ensures tt .0) (c .in-Some .ensures tt .1)
+
+pub returns-in-rest : need.returns-in-rest
+returns-in-rest g c =
+    let bad = c .in-rest .ensures tt in
+    let w = g .F·Field .model .width in
+    record { answer = (inl ((λ s. bad (subst (λ (k : ℕ). Sized (length (c .args .file .now)) k w) (sym (c .k-k .ensures)) s)), ap refusal-of (c .refuse .ensures)), refl) }
+
+pub returns-then-share-n : need.returns-then-share-n
+returns-then-share-n g c =
+    let sized = subst (λ (k : ℕ). Sized (length (c .args .file .now)) k (g .F·Field .model .width)) (c .k-k .ensures) (c .in-Some .ensures tt .1) in
+    let over : c .args .code .n ≤ c .args .share = omega (arith, c .n .ensures) in
+    record { answer = (inr ((λ not. not sized), inl (over, ap refusal-of (c .refuse-then-share-n .ensures))), refl) }
+
+pub returns-then-out-size : need.returns-then-out-size
+returns-then-out-size g c =
+    let o = g .F·Field .model in
+    let file = c .args .file .now in
+    let sized = subst (λ (k : ℕ). Sized (length file) k (o .width)) (c .k-k .ensures) (c .in-Some .ensures tt .1) in
+    let due : c .in-Some .block * c .stored-width .result ≡ block-length (length file) (c .args .code .k) * o .width =
+    ap₂ (λ (b w : ℕ). b * w) (c .in-Some .ensures tt .0 ∙ ap (block-length (length file)) (c .k-k .ensures)) (c .stored-width .ensures) in
+    let short : length (c .args .out .now) < block-length (length file) (c .args .code .k) * o .width = omega (arith, due) in
+    record {
+      answer = (inr ((λ not. not sized), inr ((λ over. absurd (omega (arith, c .n .ensures))), inl (short, ap refusal-of (c .refuse-then-out-size .ensures)))), refl);
+    }
 
 pub mul-k : need.mul-k
 mul-k g c = omega (arith, known g (need.at·mul-k g c .In-Some))

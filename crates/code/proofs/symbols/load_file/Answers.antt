@@ -1,11 +1,21 @@
 use mathlib.Core.Path.{_≡_, sym, ap, _∙_}
 use Prim.Native.Nat.{ℕ}
 use native.Mathlib.Omega.{arith}
+use native.Mathlib.Nat.{not-suc-le-zero}
 use lib.ListN.{getD}
 use borrow.Author.Needs.{needs}
 use Rattle.std.proofs.shelf.Lists.{getD-past}
 use Rattle.code.proofs.Writes.{one-more}
 use Rattle.code.proofs.symbols.load_file.Needs as need
+
+pub loop-t-holds : need.loop-t-holds
+loop-t-holds g c s h = absurd (not-suc-le-zero h)
+
+pub loop-u-holds : need.loop-u-holds
+loop-u-holds g c s h = c .loop-t .inv s (omega arith)
+
+pub returns : need.returns
+returns g c t h = c .loop-u .inv t (omega arith)
 
 pub loop-t-again : need.loop-t-again
 loop-t-again g c =
