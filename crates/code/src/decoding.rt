@@ -17,6 +17,7 @@ use crate::shape::calls::refuse;
 use crate::symbols::block_of;
 use crate::symbols::bytes_of;
 use crate::symbols::read_symbols;
+use crate::symbols::width_of;
 use field::Field;
 use field::binary::Binary;
 use field::binary::BinaryField;
@@ -99,7 +100,7 @@ fn decode_with<F: Field>(
     if shares.len() != k {
         return Err(refuse(Reason::BadLength));
     }
-    if payloads.len() != k * (block * F::stored_width()) {
+    if payloads.len() != k * (block * width_of::<F>()) {
         return Err(refuse(Reason::BadLength));
     }
     if !are_different(code.n(), shares) {

@@ -12,6 +12,7 @@ use crate::shape::calls::refuse;
 use crate::symbols::block_of;
 use crate::symbols::load_file;
 use crate::symbols::store;
+use crate::symbols::width_of;
 use field::Field;
 use field::binary::Binary;
 use field::binary::BinaryField;
@@ -42,7 +43,7 @@ fn encode_with<F: Field>(
     if share >= code.n() {
         return Err(refuse(Reason::BadShare));
     }
-    let size = block * F::stored_width();
+    let size = block * width_of::<F>();
     if out.len() < size {
         return Err(refuse(Reason::ShortBuffer));
     }

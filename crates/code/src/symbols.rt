@@ -10,6 +10,18 @@ ghost use Rattle.code.specs.Shares.{block-length, Sized, serial};
 ghost use Rattle.code.specs.Lagrange.{entry};
 use field::Field;
 
+// How many bytes a symbol is stored in: the field's constant. Its value is not known here, so the field's own answer confirms it.
+pub(crate) fn width_of<F: Field>() -> usize
+    ensures { λ r. ⌜ r ≡ model .width ⌝ }
+{
+    let width = F::WIDTH;
+    if width == F::stored_width() {
+        width
+    } else {
+        F::stored_width()
+    }
+}
+
 // The length of a block of a file of this length, or none where the file has no shares.
 pub(crate) fn block_of<F: Field>(len: usize, k: usize) -> Option<usize>
     requires { ⌜ 1 ≤ k ⌝ }
@@ -19,7 +31,7 @@ pub(crate) fn block_of<F: Field>(len: usize, k: usize) -> Option<usize>
         return None;
     }
     let block = (len - 1) / k + 1;
-    let width = F::stored_width();
+    let width = width_of::<F>();
     if block > 1024 || width > 1024 {
         return None;
     }
@@ -52,7 +64,7 @@ pub(crate) fn store<F: Field>(symbols: &[F::Symbol], count: usize, out: &mut [u8
     requires room { ⌜ count * model .width ≤ length (now out) ⌝ }
     ensures { λ _. ⌜ now (out .exit) ≡ serial model (entry elem (sym (model .zero)) (now (symbols .entry))) count ++ drop (count * model .width) (now (out .entry)) ⌝ }
 {
-    let width = F::stored_width();
+    let width = width_of::<F>();
     for i in 0..count {
         F::write(&mut out[i * width..i * width + width], symbols[i]);
     }
@@ -66,7 +78,7 @@ pub(crate) fn read_symbols<F: Field>(bytes: &[u8], count: usize, symbols: &mut [
     requires small { ⌜ count * model .width ≤ 16384 ⌝ }
     ensures { λ r. ⌜ When r ((t : ℕ) → t < count → model .stored (entry elem (sym (model .zero)) (now (symbols .exit)) t) ≡ take (model .width) (drop (t * model .width) (now (bytes .entry)))) ((t : ℕ) × (t < count) × ((e : elements) → model .stored e ≡ take (model .width) (drop (t * model .width) (now (bytes .entry))) → ⊥)) ⌝ }
 {
-    let width = F::stored_width();
+    let width = width_of::<F>();
     for t in 0..count {
         let Some(symbol) = F::read(&bytes[t * width..t * width + width]) else {
             return false;

@@ -54,13 +54,19 @@ fn code_over(field: usize, h: usize) -> Result<Code, Failure>
     Ok(Code::new(field, K, h, N)?)
 }
 
-// Prints each share with its length and check sum.
+// Prints a share with its length and check sum.
+fn print_share(rt: &LibcRuntime, share: &Share) -> Result<(), Failure> {
+    let number = share.number;
+    let len = share.payload.len();
+    let sum = fnv1a(share.payload.as_slice());
+    println!(rt, "  share {number}: {len} bytes, check sum {sum:#018x}")?;
+    Ok(())
+}
+
+// Prints each share.
 fn print_shares(rt: &LibcRuntime, shares: &[Share]) -> Result<(), Failure> {
     for share in shares {
-        let number = share.number;
-        let len = share.payload.len();
-        let sum = fnv1a(share.payload.as_slice());
-        println!(rt, "  share {number}: {len} bytes, check sum {sum:#018x}")?;
+        print_share(rt, share)?;
     }
     Ok(())
 }

@@ -37,12 +37,12 @@ known g c =
     (omega (arith, e, c .args .code .numbers)) (omega (arith, e, c .args .code .numbers)) (c .in-Some .ensures tt .0) (c .in-Some .ensures tt .1)
 
 whole : (g : given.Over) (c : Else-out-len g) → length (c .args .payloads .now) ≡ c .k-k .result * (c .in-Some .block * g .F·Field .model .width)
-whole g c = c .if-payloads-k .left ∙ ap (λ (w : ℕ). c .k-k .result * (c .in-Some .block * w)) (c .stored-width .ensures)
+whole g c = c .if-payloads-k .left ∙ ap (λ (w : ℕ). c .k-k .result * (c .in-Some .block * w)) (c .width-of .ensures)
 
 lengths : (g : given.Over) (c : Else-out-len g) → Lengths (c .args .len) (c .k-k .result) (g .F·Field .model .width) (c .args .shares .now) (c .args .payloads .now)
 lengths g c =
-    lengths-at (c .args .len) (c .k-k .result) (c .k-k .result) (c .in-Some .block) (c .stored-width .result) (g .F·Field .model .width) (c .args .shares .now) (c .args .payloads .now)
-    refl (c .in-Some .ensures tt) (c .stored-width .ensures) (c .if-shares-k .left) (c .if-payloads-k .left)
+    lengths-at (c .args .len) (c .k-k .result) (c .k-k .result) (c .in-Some .block) (c .width-of .result) (g .F·Field .model .width) (c .args .shares .now) (c .args .payloads .now)
+    refl (c .in-Some .ensures tt) (c .width-of .ensures) (c .if-shares-k .left) (c .if-payloads-k .left)
 
 -- a bad symbol is told
 told : (g : given.Over) (c : Else-out-len g) (f : Fault) → f ≡ record { reason = BadSymbol; layer = Code; detail = 0 }
@@ -68,15 +68,15 @@ returns-then-shares-k g c =
 
 pub returns-then-payloads-k : need.returns-then-payloads-k
 returns-then-payloads-k g c =
-    let due : c .k-k .result * (c .in-Some .block * c .stored-width .result) ≡ c .args .code .k * (block-length (c .args .len) (c .args .code .k) * g .F·Field .model .width) =
-    ap₂ (λ (k x : ℕ). k * x) (c .k-k .ensures) (ap₂ (λ (b w : ℕ). b * w) (c .in-Some .ensures tt .0 ∙ ap (block-length (c .args .len)) (c .k-k .ensures)) (c .stored-width .ensures)) in
+    let due : c .k-k .result * (c .in-Some .block * c .width-of .result) ≡ c .args .code .k * (block-length (c .args .len) (c .args .code .k) * g .F·Field .model .width) =
+    ap₂ (λ (k x : ℕ). k * x) (c .k-k .ensures) (ap₂ (λ (b w : ℕ). b * w) (c .in-Some .ensures tt .0 ∙ ap (block-length (c .args .len)) (c .k-k .ensures)) (c .width-of .ensures)) in
     record { answer = (inl ((λ l. c .if-payloads-k .taken (l .whole ∙ sym due)), ap refusal-of (c .refuse-then-payloads-k .ensures)), refl) }
 
 pub returns-then-not-are-different : need.returns-then-not-are-different
 returns-then-not-are-different g c =
     let bad = c .if-not-are-different .ensures tt in
-    let long = lengths-at (c .args .len) (c .k-k .result) (c .args .code .k) (c .in-Some .block) (c .stored-width .result) (g .F·Field .model .width) (c .args .shares .now) (c .args .payloads .now)
-    (c .k-k .ensures) (c .in-Some .ensures tt) (c .stored-width .ensures) (c .if-shares-k .left) (c .if-payloads-k .left) in
+    let long = lengths-at (c .args .len) (c .k-k .result) (c .args .code .k) (c .in-Some .block) (c .width-of .result) (g .F·Field .model .width) (c .args .shares .now) (c .args .payloads .now)
+    (c .k-k .ensures) (c .in-Some .ensures tt) (c .width-of .ensures) (c .if-shares-k .left) (c .if-payloads-k .left) in
     record {
       answer = (
         inr (
@@ -90,8 +90,8 @@ returns-then-not-are-different g c =
 pub returns-then-out-len : need.returns-then-out-len
 returns-then-out-len g c =
     let different = subst (λ (n : ℕ). Different n (c .args .shares .now)) (c .n .ensures) (c .if-not-are-different .ensures tt) in
-    let long = lengths-at (c .args .len) (c .k-k .result) (c .args .code .k) (c .in-Some .block) (c .stored-width .result) (g .F·Field .model .width) (c .args .shares .now) (c .args .payloads .now)
-    (c .k-k .ensures) (c .in-Some .ensures tt) (c .stored-width .ensures) (c .if-shares-k .left) (c .if-payloads-k .left) in
+    let long = lengths-at (c .args .len) (c .k-k .result) (c .args .code .k) (c .in-Some .block) (c .width-of .result) (g .F·Field .model .width) (c .args .shares .now) (c .args .payloads .now)
+    (c .k-k .ensures) (c .in-Some .ensures tt) (c .width-of .ensures) (c .if-shares-k .left) (c .if-payloads-k .left) in
     record {
       answer = (
         inr ((λ not. not long), inr ((λ not. not different), inl (c .if-out-len .taken, ap refusal-of (c .refuse-then-out-len .ensures)))),

@@ -43,8 +43,8 @@ returns-then-out-size g c =
     let o = g .F·Field .model in
     let file = c .args .file .now in
     let sized = subst (λ (k : ℕ). Sized (length file) k (o .width)) (c .k-k .ensures) (c .in-Some .ensures tt .1) in
-    let due : c .in-Some .block * c .stored-width .result ≡ block-length (length file) (c .args .code .k) * o .width =
-    ap₂ (λ (b w : ℕ). b * w) (c .in-Some .ensures tt .0 ∙ ap (block-length (length file)) (c .k-k .ensures)) (c .stored-width .ensures) in
+    let due : c .in-Some .block * c .width-of .result ≡ block-length (length file) (c .args .code .k) * o .width =
+    ap₂ (λ (b w : ℕ). b * w) (c .in-Some .ensures tt .0 ∙ ap (block-length (length file)) (c .k-k .ensures)) (c .width-of .ensures) in
     let short : length (c .args .out .now) < block-length (length file) (c .args .code .k) * o .width = omega (arith, due) in
     record {
       answer = (inr ((λ not. not sized), inr ((λ over. absurd (omega (arith, c .n .ensures))), inl (short, ap refusal-of (c .refuse-then-out-size .ensures)))), refl);
@@ -94,7 +94,7 @@ returns g c =
     let share = c .args .share in
     let block = c .in-Some .block in
     let made = c .in-Some .ensures tt in
-    let wide = c .stored-width .ensures in
+    let wide = c .width-of .ensures in
     let few : k ≤ 16 = omega (arith, ek, c .args .code .numbers) in
     let all = c .points-of-points .result in
     let value = entry (f .elem) z (c .interpolate .last .sums) in
@@ -103,14 +103,14 @@ returns g c =
     (λ i h. getD-take (k - 0) all i z (omega arith) ∙ c .points-of-points .ensures .points i (omega (arith, first-length k few)) ∙ ap (λ n. f .sym (o .point n)) (first-is k i few h))
     (c .load-file .ensures) (c .in-Some-point .ensures tt .1) (c .interpolate .ensures) in
     let bytes = serial o value block in
-    let encoded : Encoded o k file share (c .args .out .now) (c .store .last .out) (block * c .stored-width .result) = record {
+    let encoded : Encoded o k file share (c .args .out .now) (c .store .last .out) (block * c .width-of .result) = record {
       bytes = bytes;
       payload = payload;
       only = λ other q. same-payload o law k share file other bytes (omega arith) q payload;
       length-is = ap (λ (n : ℕ). block * n) wide ∙ sym (serial-length o law value block);
       written = c .store .ensures ∙ ap (λ (n : ℕ). bytes ++ drop (block * n) (c .args .out .now)) (sym wide);
     } in
-    let due : block * c .stored-width .result ≡ block-length (length file) (c .args .code .k) * o .width =
+    let due : block * c .width-of .result ≡ block-length (length file) (c .args .code .k) * o .width =
     ap₂ (λ (b w : ℕ). b * w) (made .0 ∙ ap (block-length (length file)) ek) wide in
     record {
       answer = (
@@ -118,6 +118,6 @@ returns g c =
           (λ unsized. unsized (subst (λ (k : ℕ). Sized (length file) k (o .width)) ek (made .1))),
           ((λ over. absurd (omega (arith, c .n .ensures))), ((λ short. absurd (omega (arith, due))), tt)),
         ),
-        subst (λ (k : ℕ). Encoded o k file share (c .args .out .now) (c .store .last .out) (block * c .stored-width .result)) ek encoded,
+        subst (λ (k : ℕ). Encoded o k file share (c .args .out .now) (c .store .last .out) (block * c .width-of .result)) ek encoded,
       );
     }

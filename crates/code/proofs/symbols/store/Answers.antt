@@ -15,8 +15,8 @@ loop-i-holds g c =
 
 pub part-write-end : need.part-write-end
 part-write-end g c =
-    let w = c .stored-width-width .result in
-    let fit : c .args .count * w ≤ length (c .args .out .now) = rw (c .stored-width-width .ensures) (c .pre .room) in
+    let w = c .width-of-width .result in
+    let fit : c .args .count * w ≤ length (c .args .out .now) = rw (c .width-of-width .ensures) (c .pre .room) in
     let h = row-ends (c .loop-i .i) (c .args .count) w (length (c .args .out .now)) (c .loop-i-test .taken) fit in
     search needs
 
@@ -27,8 +27,8 @@ loop-i-again g c =
     let z = f .sym (o .zero) in
     let symbols = c .args .symbols .now in
     let i = c .loop-i .i in
-    let w = c .stored-width-width .result in
-    let wide = c .stored-width-width .ensures in
+    let w = c .width-of-width .result in
+    let wide = c .width-of-width .ensures in
     let part = take (i * w + w - i * w) (drop (i * w) (c .loop-i .out)) in
     let fit : c .args .count * w ≤ length (c .args .out .now) = rw wide (c .pre .room) in
     let ends : i * w + w ≤ length (c .loop-i .out) = omega (arith, row-ends i (c .args .count) w (length (c .args .out .now)) (c .loop-i-test .taken) fit) in
