@@ -1,4 +1,6 @@
 // Banks: racks of sleds that hold shares of files, the one interface that they have, and layers over them.
+#![tactic(auto)]
+
 ghost use Rattle.std.specs.Prelude.{◌≡◌, length, is_some};
 ghost use Rattle.bank.specs.Calls.{Fetches, Puts, Blanks};
 ghost use Rattle.bank.specs.Meaning.{Rack, Sound, sled_at, held, count};

@@ -1,4 +1,6 @@
 // A Reed-Solomon code: a file of L bytes as n shares, of which any k give it back, over any field.
+#![tactic(auto)]
+
 pub mod decoding;
 pub mod encoding;
 mod interpolation;

@@ -1,4 +1,6 @@
 // Fields for a Reed-Solomon code: what a field is, and the fields of 256 and of 257 symbols.
+#![tactic(auto)]
+
 ghost use Rattle.std.specs.Prelude.{◌≡◌, ℕ, ◌<◌, ◌≤◌, ◌++◌, length, drop, MatchBool, MatchOption, ◌≢◌};
 ghost use denote.Memory.{lone};
 ghost use prog.Memory.{size as bytes};

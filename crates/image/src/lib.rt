@@ -1,4 +1,6 @@
 // Images of sleds: trays and zones, each a bank over its bytes.
+#![tactic(auto)]
+
 pub mod check;
 mod contents;
 mod entry;

@@ -1,4 +1,6 @@
 // Keeps a disk's dump as shares, loses half of them, and gets the dump back, over each field.
+#![tactic(auto)]
+
 mod check;
 mod demo;
 mod failure;

@@ -1,4 +1,6 @@
 // Why a call is turned down: the reason, the layer that speaks, and a detail.
+#![tactic(auto)]
+
 ghost use Rattle.std.specs.Prelude.{◌≡◌};
 ghost use Rattle.refusal.specs.Refusals.{reason_number, layer_number};
 

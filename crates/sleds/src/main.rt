@@ -1,4 +1,6 @@
 // Keeps a disk's dump as shares on the sleds of a tray and of a zone, and gets it back from half of them.
+#![tactic(auto)]
+
 mod demo;
 
 use dumps::failure::Failure;

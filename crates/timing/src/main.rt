@@ -1,4 +1,6 @@
 // Measures how long it takes to make shares, on request.
+#![tactic(auto)]
+
 mod rounds;
 
 use dumps::failure::Failure;
