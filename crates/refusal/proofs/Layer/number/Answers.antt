@@ -3,4 +3,4 @@ use Rattle.refusal.proofs.Apart.{layers_apart}
 use Rattle.refusal.proofs.Layer.number.Goals as goal
 
 pub returns : goal.returns
-returns c = record { value = c.number-of-layer.ensures; apart = λ other e. layers_apart other c.args.self (e ∙ c.number-of-layer.ensures) }
+returns c = record { value = c.number_of_layer.ensures; apart = λ other e. layers_apart other c.args.self (e ∙ c.number_of_layer.ensures) }

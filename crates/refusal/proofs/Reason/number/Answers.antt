@@ -3,4 +3,4 @@ use Rattle.refusal.proofs.Apart.{reasons_apart}
 use Rattle.refusal.proofs.Reason.number.Goals as goal
 
 pub returns : goal.returns
-returns c = record { value = c.number-of-reason.ensures; apart = λ other e. reasons_apart other c.args.self (e ∙ c.number-of-reason.ensures) }
+returns c = record { value = c.number_of_reason.ensures; apart = λ other e. reasons_apart other c.args.self (e ∙ c.number_of_reason.ensures) }
