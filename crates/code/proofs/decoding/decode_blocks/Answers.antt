@@ -25,26 +25,26 @@ value g c i h =
     ∙ ap (interpolated f.model (entry f.elem z c.args.points.now) (λ m. entry f.elem z c.args.rows.now (m * c.args.block + i)) (length c.args.points.now))
     (coded.known f.elem f.sym back c.in-Some.ensures.1)
 
-pub returns-then-not-bytes-of : goal.returns-then-not-bytes-of
-returns-then-not-bytes-of g c =
-    let bad = c.if-not-bytes-of.ensures.bytes in
+pub returns-then-not-bytes_of : goal.returns-then-not-bytes_of
+returns-then-not-bytes_of g c =
+    let bad = c.if-not-bytes_of.ensures.bytes in
     let within : bad.0 < c.args.block = omega (arith, bad.1, c.min-count.ensures) in (
       c.loop-b.b,
       bad.0,
       within,
       omega (arith, bad.1, c.min-count.ensures),
-      λ y h e. bad.2 y h (e ∙ sym (value g (goal.at.returns-then-not-bytes-of g c).After-interpolate bad.0 within)),
+      λ y h e. bad.2 y h (e ∙ sym (value g (goal.at.returns-then-not-bytes_of g c).After-interpolate bad.0 within)),
     )
 
 pub loop-b-preserved : goal.loop-b-preserved
 loop-b-preserved g c b i hb h within =
     let f = g.F.Field in
     let B = c.args.block in
-    let done = c.if-not-bytes-of.ensures in
+    let done = c.if-not-bytes_of.ensures in
     elim (cases_eq b c.loop-b.b) [
       | inl e ↦
           let z = f.sym f.model.zero in
-          let now = c.bytes-of.new.out in
+          let now = c.bytes_of.new.out in
           let count : i < c.min-count.result = omega (arith, c.min-count.ensures, ap (λ (n : ℕ). n * B) e) in
           let here = done.bytes i count in
           subst (λ (n : ℕ). (get_or now (n * B + i) 0 < 256) × (f.model.byte (get_or now (n * B + i) 0) ≡ interpolated f.model (entry f.elem z c.args.points.now) (λ m. entry f.elem z c.args.rows.now (m * B + i)) (length c.args.points.now) (f.model.point n)))

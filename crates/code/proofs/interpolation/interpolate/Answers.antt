@@ -6,17 +6,17 @@ use Rattle.code.proofs.Turns.{total-zero, total_more}
 use Rattle.code.proofs.Rows.{row_ends, row_length, row_item}
 use Rattle.code.proofs.interpolation.interpolate.Goals as goal
 
-pub overflow-mul-start : goal.overflow-mul-start
-overflow-mul-start g c = omega (arith, mul-le c.loop-m.m c.args.block 16 1024 (omega arith) c.requires.short)
+pub overflow_mul-start : goal.overflow_mul-start
+overflow_mul-start g c = omega (arith, mul-le c.loop-m.m c.args.block 16 1024 (omega arith) c.requires.short)
 
-pub offset-bounds-rows-start : goal.offset-bounds-rows-start
-offset-bounds-rows-start g c = omega (arith, row_ends c.loop-m.m (length c.args.points.now) c.args.block (length c.args.rows.now) c.loop-m-test.true c.requires.whole)
+pub offset_bounds-rows-start : goal.offset_bounds-rows-start
+offset_bounds-rows-start g c = omega (arith, row_ends c.loop-m.m (length c.args.points.now) c.args.block (length c.args.rows.now) c.loop-m-test.true c.requires.whole)
 
-pub slice-bounds-add-scaled-end : goal.slice-bounds-add-scaled-end
-slice-bounds-add-scaled-end g c = let h = row_ends c.loop-m.m (length c.args.points.now) c.args.block (length c.args.rows.now) c.loop-m-test.true c.requires.whole in search rules
+pub slice_bounds-add_scaled-end : goal.slice_bounds-add_scaled-end
+slice_bounds-add_scaled-end g c = let h = row_ends c.loop-m.m (length c.args.points.now) c.args.block (length c.args.rows.now) c.loop-m-test.true c.requires.whole in search rules
 
-pub add-scaled-requires : goal.add-scaled-requires
-add-scaled-requires g c =
+pub add_scaled-requires : goal.add_scaled-requires
+add_scaled-requires g c =
     let h = row_ends c.loop-m.m (length c.args.points.now) c.args.block (length c.args.rows.now) c.loop-m-test.true c.requires.whole in
     let size = row_length c.args.rows.now (c.loop-m.m * c.args.block) c.args.block h in
     search rules
@@ -42,9 +42,9 @@ loop-m-preserved g c i h =
     let term = λ (m : ℕ). o.mul (entry f.elem z rows (m * B + i)) (w m) in
     let ends = row_ends c.loop-m.m (length c.args.points.now) c.args.block (length c.args.rows.now) c.loop-m-test.true c.requires.whole in
     let within : i < length (take (m * B + B - m * B) (drop (m * B) rows)) = rw (row_length rows (m * B) B ends) h in
-    c.add-scaled.ensures i within
+    c.add_scaled.ensures i within
     ∙ ap₂ (λ a b. f.sym (o.add a b)) (coded.known f.elem f.sym back (c.loop-m.invariant i h))
-    (ap₂ o.mul (coded.known f.elem f.sym back c.weight-of-weight.ensures) (ap f.elem (row_item z rows (m * B) B i h)) ∙ g.met.F.Field.lawful.mul_comm (w m) (entry f.elem z rows (m * B + i)))
+    (ap₂ o.mul (coded.known f.elem f.sym back c.weight_of-weight.ensures) (ap f.elem (row_item z rows (m * B) B i h)) ∙ g.met.F.Field.lawful.mul_comm (w m) (entry f.elem z rows (m * B + i)))
     ∙ ap f.sym (sym (total_more o term m))
 
 pub returns : goal.returns

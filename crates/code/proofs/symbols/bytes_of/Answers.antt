@@ -4,13 +4,13 @@ use Rattle.code.specs.Lagrange.{entry}
 use Rattle.code.proofs.Writes.{one_more_from, others_stay}
 use Rattle.code.proofs.symbols.bytes_of.Goals as goal
 
-pub returns-in-default : goal.returns-in-default
-returns-in-default g c =
+pub returns-in_default : goal.returns-in_default
+returns-in_default g c =
     let f = g.F.Field in
     let z = f.sym f.model.zero in
     let read : c.index-symbols-i.result ≡ get_or c.args.symbols.now c.loop-i.i z = search (rules, get_or_read) in
     record {
-      bytes = (c.loop-i.i, c.loop-i-test.true, λ b h e. c.in-default.ensures b h (e ∙ ap f.elem (sym read)));
+      bytes = (c.loop-i.i, c.loop-i-test.true, λ b h e. c.in_default.ensures b h (e ∙ ap f.elem (sym read)));
       kept = c.loop-i.invariant.1;
     }
 

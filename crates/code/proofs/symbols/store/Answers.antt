@@ -10,10 +10,10 @@ loop-i-init g c =
     let f = g.F.Field in
     serial_start f.model g.met.F.Field.lawful (entry f.elem (f.sym f.model.zero) c.args.symbols.now) c.args.out.now
 
-pub slice-bounds-write-end : goal.slice-bounds-write-end
-slice-bounds-write-end g c =
-    let w = c.width-of-width.result in
-    let fit : c.args.count * w ≤ length c.args.out.now = rw c.width-of-width.ensures c.requires.room in
+pub slice_bounds-write-end : goal.slice_bounds-write-end
+slice_bounds-write-end g c =
+    let w = c.width_of-width.result in
+    let fit : c.args.count * w ≤ length c.args.out.now = rw c.width_of-width.ensures c.requires.room in
     let h = row_ends c.loop-i.i c.args.count w (length c.args.out.now) c.loop-i-test.true fit in
     search rules
 
@@ -24,8 +24,8 @@ loop-i-preserved g c =
     let z = f.sym o.zero in
     let symbols = c.args.symbols.now in
     let i = c.loop-i.i in
-    let w = c.width-of-width.result in
-    let wide = c.width-of-width.ensures in
+    let w = c.width_of-width.result in
+    let wide = c.width_of-width.ensures in
     let part = take (i * w + w - i * w) (drop (i * w) c.loop-i.out) in
     let fit : c.args.count * w ≤ length c.args.out.now = rw wide c.requires.room in
     let ends : i * w + w ≤ length c.loop-i.out = omega (arith, row_ends i c.args.count w (length c.args.out.now) c.loop-i-test.true fit) in

@@ -10,8 +10,8 @@ loop-number-preserved g c =
     let numbers = c.args.numbers.now in
     let i = c.loop-number.number-index in
     let more = ap (joined rack c.args.id) (take_more numbers i 0 (omega arith)) ∙ joined_more rack c.args.id (take i numbers) (get_or numbers i 0) in
-    let bytes = ap bytes_or_none c.in-ok-payload.ensures in
-    cc (more, bytes, c.as-slice.ensures.value, c.in-ok-extend-from-slice.ensures.items, c.loop-number.invariant)
+    let bytes = ap bytes_or_none c.in_ok-payload.ensures in
+    cc (more, bytes, c.as_slice.ensures.value, c.in_ok-extend_from_slice.ensures.items, c.loop-number.invariant)
 
 pub returns : goal.returns
 returns g c =

@@ -4,4 +4,4 @@ use Rattle.field.specs.Binary.{times, inverse_of}
 use Rattle.field.proofs.binary.invert.Given as goal
 
 abbrev pub invariant-loop-i : goal.invariant-loop-i
-invariant-loop-i l = square_chain times (7 - l.-i) l.result l.power ≡ inverse_of l.a
+invariant-loop-i l = square_chain times (7 - l._i) l.result l.power ≡ inverse_of l.a

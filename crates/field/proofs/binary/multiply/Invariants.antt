@@ -8,4 +8,4 @@ invariant-loop-i l =
     (bit_xor l.sum (times l.shifted l.rest) ≡ times l.a l.b)
     × (l.shifted < 256)
     × (l.rest < 256)
-    × (l.rest < 2 ^ (8 - l.-i))
+    × (l.rest < 2 ^ (8 - l._i))

@@ -11,9 +11,9 @@ loop-i-init c = (point-one, lit< tt)
 
 pub loop-i-preserved : goal.loop-i-preserved
 loop-i-preserved c = (
-  c.double-power.ensures ∙ point_step c.loop-i.-i c.loop-i.power (search rules) c.loop-i.invariant.1 c.loop-i.invariant.0,
-  c.double-power.type-inv,
+  c.double-power.ensures ∙ point_step c.loop-i._i c.loop-i.power (search rules) c.loop-i.invariant.1 c.loop-i.invariant.0,
+  c.double-power.type_inv,
 )
 
 pub returns : goal.returns
-returns c = let e : c.loop-i.-i ≡ c.args.j = omega arith in c.loop-i.invariant.0 ∙ ap point_of e
+returns c = let e : c.loop-i._i ≡ c.args.j = omega arith in c.loop-i.invariant.0 ∙ ap point_of e

@@ -3,4 +3,4 @@ use Rattle.field.specs.Binary.{point_of}
 use Rattle.field.proofs.binary.point_at.Given as goal
 
 abbrev pub invariant-loop-i : goal.invariant-loop-i
-invariant-loop-i l = (l.power ≡ point_of l.-i) × (l.power < 256)
+invariant-loop-i l = (l.power ≡ point_of l._i) × (l.power < 256)

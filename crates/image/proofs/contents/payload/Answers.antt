@@ -6,20 +6,20 @@ use Rattle.image.proofs.contents.payload.Goals as goal
 
 pub returns-then-j-n : goal.returns-then-j-n
 returns-then-j-n c =
-    found_nothing c.args.layout c.args.cells c.args.bytes.now _ c.seen-places-n.ensures.value _ c.args.id c.args.share c.find-turn-j.ensures c.if-j-n.true
+    found_nothing c.args.layout c.args.cells c.args.bytes.now _ c.seen_places-n.ensures.value _ c.args.id c.args.share c.find_turn-j.ensures c.if-j-n.true
 
-pub slice-bounds-result-end : goal.slice-bounds-result-end
-slice-bounds-result-end c =
-    let h = found_length c.args.layout c.args.cells c.args.bytes.now _ c.seen-places-n.ensures.value _ c.args.id c.args.share _ c.find-turn-j.ensures c.place-in-turn-place.ensures.value c.if-j-n.false in
-    let len = c.length-in-len.ensures ∙ ap (λ e. low_first 2 e 2) c.entry-of.ensures.value in
-    let l : c.length-in-len.result ≤ 1024 = omega arith in
+pub slice_bounds-result-end : goal.slice_bounds-result-end
+slice_bounds-result-end c =
+    let h = found_length c.args.layout c.args.cells c.args.bytes.now _ c.seen_places-n.ensures.value _ c.args.id c.args.share _ c.find_turn-j.ensures c.place_in_turn-place.ensures.value c.if-j-n.false in
+    let len = c.length_in-len.ensures ∙ ap (λ e. low_first 2 e 2) c.entry_of.ensures.value in
+    let l : c.length_in-len.result ≤ 1024 = omega arith in
     search rules
 
 pub returns : goal.returns
 returns c =
-    let p = place_at c.args.layout c.args.cells c.args.bytes.now c.place-in-turn-place.result in
-    let len = c.length-in-len.ensures ∙ ap (λ e. low_first 2 e 2) c.entry-of.ensures.value in
-    let same : c.length-in-len.result - 0 ≡ p.len = omega arith in
-    ap (λ k. Some (take k c.cell-of.result.now)) same
-    ∙ ap (λ cell. Some (take p.len cell)) c.cell-of.ensures.value
-    ∙ found_payload c.args.layout c.args.cells c.args.bytes.now _ c.seen-places-n.ensures.value _ c.args.id c.args.share _ c.find-turn-j.ensures c.place-in-turn-place.ensures.value c.if-j-n.false
+    let p = place_at c.args.layout c.args.cells c.args.bytes.now c.place_in_turn-place.result in
+    let len = c.length_in-len.ensures ∙ ap (λ e. low_first 2 e 2) c.entry_of.ensures.value in
+    let same : c.length_in-len.result - 0 ≡ p.len = omega arith in
+    ap (λ k. Some (take k c.cell_of.result.now)) same
+    ∙ ap (λ cell. Some (take p.len cell)) c.cell_of.ensures.value
+    ∙ found_payload c.args.layout c.args.cells c.args.bytes.now _ c.seen_places-n.ensures.value _ c.args.id c.args.share _ c.find_turn-j.ensures c.place_in_turn-place.ensures.value c.if-j-n.false

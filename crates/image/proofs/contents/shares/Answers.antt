@@ -5,5 +5,5 @@ use Rattle.image.proofs.contents.shares.Goals as goal
 
 pub returns : goal.returns
 returns c =
-    c.count-seen.ensures
-    ∙ ap (λ ps. length (shares_of ps)) (seen_is c.args.layout c.args.cells c.args.bytes.now c.seen-places-n.result c.seen-places-n.ensures.value)
+    c.count_seen.ensures
+    ∙ ap (λ ps. length (shares_of ps)) (seen_is c.args.layout c.args.cells c.args.bytes.now c.seen_places-n.result c.seen_places-n.ensures.value)

@@ -5,8 +5,8 @@ use Rattle.image.specs.Scans.{turn}
 use Rattle.image.specs.Positions.{position_more, position_here, position_end}
 use Rattle.image.proofs.sled.find_turn.Goals as goal
 
-pub returns-then-share-at : goal.returns-then-share-at
-returns-then-share-at c =
+pub returns-then-share_at : goal.returns-then-share_at
+returns-then-share_at c =
     let f : ℕ → Place = λ j. place_at c.args.layout c.args.cells c.args.bytes.now (turn c.args.layout c.args.n j) in
     position_here f c.args.n (answers c.args.id c.args.share) c.loop-j.j (omega arith) (cc) c.loop-j.invariant
 

@@ -4,8 +4,8 @@ use Rattle.image.specs.Places.{is_free}
 use Rattle.image.specs.Positions.{position_more, position_here, position_end}
 use Rattle.image.proofs.sled.first_free.Goals as goal
 
-pub returns-then-free-at : goal.returns-then-free-at
-returns-then-free-at c =
+pub returns-then-free_at : goal.returns-then-free_at
+returns-then-free_at c =
     let h = position_here (place_at c.args.layout c.args.cells c.args.bytes.now) c.args.cells is_free c.loop-place.place (omega arith) (cc) c.loop-place.invariant in
     record { value = h; within = omega arith }
 

@@ -5,4 +5,4 @@ use Rattle.image.proofs.writes.free_place.Goals as goal
 
 pub returns : goal.returns
 returns c =
-    set-over c.args.bytes.now c.entry-at-at.result 0 (omega arith) ∙ ap (λ at. over at (0 ∷ []) c.args.bytes.now) c.entry-at-at.ensures.value
+    set-over c.args.bytes.now c.entry_at-at.result 0 (omega arith) ∙ ap (λ at. over at (0 ∷ []) c.args.bytes.now) c.entry_at-at.ensures.value

@@ -8,7 +8,7 @@ pub returns : goal.returns
 returns c =
     let payload = c.args.payload.now in
     let entry = entry_of c.args.id c.args.share payload in
-    put_mid-over c.cell-at-at.result (length payload) _ _ payload c.copy-from-slice-2.ensures.after refl
-    ∙ ap (over c.cell-at-at.result payload) (put_mid-over c.entry-at-start.result 16 _ _ entry (c.copy-from-slice.ensures.after ∙ c.new-entry-entry.ensures) refl)
-    ∙ ap (λ at. over at payload (over c.entry-at-start.result entry c.args.bytes.now)) c.cell-at-at.ensures.value
-    ∙ ap (λ at. over (cell_at c.args.layout c.args.cells c.args.place) payload (over at entry c.args.bytes.now)) c.entry-at-start.ensures.value
+    put_mid-over c.cell_at-at.result (length payload) _ _ payload c.copy_from_slice-2.ensures.after refl
+    ∙ ap (over c.cell_at-at.result payload) (put_mid-over c.entry_at-start.result 16 _ _ entry (c.copy_from_slice.ensures.after ∙ c.new_entry-entry.ensures) refl)
+    ∙ ap (λ at. over at payload (over c.entry_at-start.result entry c.args.bytes.now)) c.cell_at-at.ensures.value
+    ∙ ap (λ at. over (cell_at c.args.layout c.args.cells c.args.place) payload (over at entry c.args.bytes.now)) c.entry_at-start.ensures.value

@@ -12,11 +12,11 @@ loop-number-preserved c =
     let j = get_or numbers i 0 in
     let share = c.in-Some.share.now in
     let found = c.in-Some.ensures.lookup in
-    let grown = c.in-ok-extend-from-slice.ensures.items in
+    let grown = c.in_ok-extend_from_slice.ensures.items in
     let more = take_more numbers i 0 (omega arith) in
     let last = joined_more shares (take i numbers) j in
     let read = get_or-map payload_of shares j share [] found.3.0 in
-    cc (ap (joined shares) more, last, read, ap payload_of found.1, c.as-slice.ensures.value, grown, c.loop-number.invariant)
+    cc (ap (joined shares) more, last, read, ap payload_of found.1, c.as_slice.ensures.value, grown, c.loop-number.invariant)
 
 pub returns : goal.returns
 returns c =

@@ -6,5 +6,5 @@ use Rattle.bank.proofs.join.Join.side.Goals as goal
 pub returns : goal.returns
 returns g c =
     let self = c.args.self.now in
-    let value : c.side_among.result ≡ side_of (g.L.Bank.meaning self.first) (g.R.Bank.meaning self.second) c.args.sled = search rules in
+    let value : c.side_by.result ≡ side_of (g.L.Bank.meaning self.first) (g.R.Bank.meaning self.second) c.args.sled = search rules in
     record { value = value; same = sled_by_side _ _ (g.met.L.Bank.sound self.first).at_most c.args.sled value }

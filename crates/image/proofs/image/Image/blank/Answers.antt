@@ -11,30 +11,30 @@ use Rattle.image.proofs.Rewritten.{kept_now, changed_sled}
 use Rattle.image.specs.Opened.{shape_in}
 use Rattle.image.proofs.image.Image.blank.Goals as goal
 
-pub blank-sled-requires : goal.blank-sled-requires
-blank-sled-requires c =
+pub blank_sled-requires : goal.blank_sled-requires
+blank_sled-requires c =
     let i = c.args.self.now in
-    let there = sled_there c.args.layout (bytes_of i) (shape_in i) c.args.sled (subst (λ n. Clear (sled_checks n c.args.sled)) (c.sleds.ensures.rack c.args.layout) c.in-ok-check-sled.ensures.0) in
+    let there = sled_there c.args.layout (bytes_of i) (shape_in i) c.args.sled (subst (λ n. Clear (sled_checks n c.args.sled)) (c.sleds.ensures.rack c.args.layout) c.in_ok-check_sled.ensures.0) in
     record {
-      there = sled_within c.args.layout (bytes_of i) (shape_in i) c.cells-cells.result c.args.sled _ c.cells-cells.ensures c.as-mut-slice-image.ensures.value there;
-      sized = sized_within c.args.layout (bytes_of i) (shape_in i) c.cells-cells.result c.args.sled _ c.cells-cells.ensures c.as-mut-slice-image.ensures.value there;
+      there = sled_within c.args.layout (bytes_of i) (shape_in i) c.cells-cells.result c.args.sled _ c.cells-cells.ensures c.as_mut_slice-image.ensures.value there;
+      sized = sized_within c.args.layout (bytes_of i) (shape_in i) c.cells-cells.result c.args.sled _ c.cells-cells.ensures c.as_mut_slice-image.ensures.value there;
     }
 
-pub invariant-of-self : goal.invariant-of-self
-invariant-of-self c =
+pub invariant_of-self : goal.invariant_of-self
+invariant_of-self c =
     let i = c.args.self.now in
-    let there = sled_there c.args.layout (bytes_of i) (shape_in i) c.args.sled (subst (λ n. Clear (sled_checks n c.args.sled)) (c.sleds.ensures.rack c.args.layout) c.in-ok-check-sled.ensures.0) in
-    let after = c.blank-sled.ensures.after ∙ changed_sled (sled_after_blank c.args.layout) c.args.sled _ _ (bytes_of i) c.cells-cells.ensures c.as-mut-slice-image.ensures.value in
-    let back = with_items_is i.bytes c.blank-sled.new.image (omega (arith, c.blank-sled.auto.image, c.as-mut-slice-image.ensures.len)) in
-    kept_now (after_blank c.args.layout c.args.sled (bytes_of i)) _ _ back after (blank_shape c.args.layout (bytes_of i) (shape_in i) c.args.sled there) c.blank-sled.ensures.bytes
+    let there = sled_there c.args.layout (bytes_of i) (shape_in i) c.args.sled (subst (λ n. Clear (sled_checks n c.args.sled)) (c.sleds.ensures.rack c.args.layout) c.in_ok-check_sled.ensures.0) in
+    let after = c.blank_sled.ensures.after ∙ changed_sled (sled_after_blank c.args.layout) c.args.sled _ _ (bytes_of i) c.cells-cells.ensures c.as_mut_slice-image.ensures.value in
+    let back = with_items_is i.bytes c.blank_sled.new.image (omega (arith, c.blank_sled.auto.image, c.as_mut_slice-image.ensures.len)) in
+    kept_now (after_blank c.args.layout c.args.sled (bytes_of i)) _ _ back after (blank_shape c.args.layout (bytes_of i) (shape_in i) c.args.sled there) c.blank_sled.ensures.bytes
 
 pub returns : goal.returns
 returns c =
     let i = c.args.self.now in
-    let clear : Clear (blank_grounds (rack_of c.args.layout (bytes_of i)) c.args.sled) = subst (λ n. Clear (sled_checks n c.args.sled)) (c.sleds.ensures.rack c.args.layout) c.in-ok-check-sled.ensures.0 in
+    let clear : Clear (blank_grounds (rack_of c.args.layout (bytes_of i)) c.args.sled) = subst (λ n. Clear (sled_checks n c.args.sled)) (c.sleds.ensures.rack c.args.layout) c.in_ok-check_sled.ensures.0 in
     let there = sled_there c.args.layout (bytes_of i) (shape_in i) c.args.sled clear in
-    let after = c.blank-sled.ensures.after ∙ changed_sled (sled_after_blank c.args.layout) c.args.sled _ _ (bytes_of i) c.cells-cells.ensures c.as-mut-slice-image.ensures.value in
-    let image = with_items_is i.bytes c.blank-sled.new.image (omega (arith, c.blank-sled.auto.image, c.as-mut-slice-image.ensures.len)) ∙ after in
+    let after = c.blank_sled.ensures.after ∙ changed_sled (sled_after_blank c.args.layout) c.args.sled _ _ (bytes_of i) c.cells-cells.ensures c.as_mut_slice-image.ensures.value in
+    let image = with_items_is i.bytes c.blank_sled.new.image (omega (arith, c.blank_sled.auto.image, c.as_mut_slice-image.ensures.len)) ∙ after in
     record {
       answer = record { answer = (clear, subst (λ img. Blanked (rack_of c.args.layout (bytes_of i)) (rack_of c.args.layout img) c.args.sled) (sym image) (image_blank c.args.layout (bytes_of i) (shape_in i) c.args.sled there)) };
       image = image;

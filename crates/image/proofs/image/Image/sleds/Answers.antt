@@ -8,5 +8,5 @@ use Rattle.image.proofs.image.Image.sleds.Goals as goal
 pub returns : goal.returns
 returns c =
     let i = c.args.self.now in
-    let e = ap sleds_of c.as-slice.ensures.value in
+    let e = ap sleds_of c.as_slice.ensures.value in
     record { value = e; rack = λ l. e ∙ sym (length-rack l (bytes_of i) (shape_in i)) }
