@@ -47,7 +47,7 @@ fn decode_blocks<F: Field>(
     requires sum_room { block ≤ length sums.old }
     requires room { len ≤ length found.old }
     requires cut { len ≤ length points.now * block }
-    ensures { MatchBool result ((b i : ℕ) → i < block → b * block + i < len → (slice_index found.new (b * block + i) < 256) × (model.byte (slice_index found.new (b * block + i)) ≡ interpolated model (entry elem (sym model.zero) points.now) (λ m. entry elem (sym model.zero) rows.now (m * block + i)) (length points.now) (model.point b))) ((b : ℕ) × (i : ℕ) × (i < block) × (b * block + i < len) × ((y : ℕ) → y < 256 → model.byte y ≢ interpolated model (entry elem (sym model.zero) points.now) (λ m. entry elem (sym model.zero) rows.now (m * block + i)) (length points.now) (model.point b))) }
+    ensures { MatchBool result ((b i : ℕ) → i < block → b * block + i < len → (slice_index found.new (b * block + i) < 256) × (F.model.byte (slice_index found.new (b * block + i)) ≡ interpolated F.model (entry F.elem (F.sym F.model.zero) points.now) (λ m. entry F.elem (F.sym F.model.zero) rows.now (m * block + i)) (length points.now) (F.model.point b))) ((b : ℕ) × (i : ℕ) × (i < block) × (b * block + i < len) × ((y : ℕ) → y < 256 → F.model.byte y ≢ interpolated F.model (entry F.elem (F.sym F.model.zero) points.now) (λ m. entry F.elem (F.sym F.model.zero) rows.now (m * block + i)) (length points.now) (F.model.point b))) }
 {
     for b in 0..points.len() {
         let start = b * block;
@@ -80,7 +80,7 @@ fn decode_with<F: Field>(
     requires symbol_room { 16384 ≤ length symbols.old }
     requires sum_room { 1024 ≤ length sums.old }
     requires byte_room { 16384 ≤ length found.old }
-    ensures { Recovers model (numbers code) len shares.now payloads.now out.old out.new result }
+    ensures { Recovers F.model (numbers code) len shares.now payloads.now out.old out.new result }
 {
     let k = code.k();
     let Some(block) = block_of::<F>(len, k) else {
@@ -118,8 +118,8 @@ fn decode_in<F: Field>(
     len: usize,
     out: &mut [u8],
 ) -> Result<(), Fault>
-    ensures answers { Recovers model (numbers code) len shares.now payloads.now out.old out.new result }
-    ensures restores { GivesBack model (numbers code) len shares.now payloads.now out.old out.new result }
+    ensures answers { Recovers F.model (numbers code) len shares.now payloads.now out.old out.new result }
+    ensures restores { GivesBack F.model (numbers code) len shares.now payloads.now out.old out.new result }
 {
     let mut symbols = [F::zero(); 16384];
     let mut sums = [F::zero(); 1024];
@@ -163,8 +163,8 @@ impl Code {
         len: usize,
         out: &mut [u8],
     ) -> Result<(), Fault>
-        ensures answers { Recovers model (numbers self) len shares.now payloads.now out.old out.new result }
-        ensures restores { GivesBack model (numbers self) len shares.now payloads.now out.old out.new result }
+        ensures answers { Recovers F.model (numbers self) len shares.now payloads.now out.old out.new result }
+        ensures restores { GivesBack F.model (numbers self) len shares.now payloads.now out.old out.new result }
     {
         decode_in::<F>(self, shares, payloads, len, out)
     }

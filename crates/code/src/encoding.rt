@@ -25,7 +25,7 @@ fn encode_with<F: Field>(
 ) -> Result<usize, Fault>
     requires symbol_room { 16384 ≤ length symbols.old }
     requires sum_room { 1024 ≤ length sums.old }
-    ensures { Encodes model (numbers code) file.now share out.old out.new result }
+    ensures { Encodes F.model (numbers code) file.now share out.old out.new result }
 {
     let k = code.k();
     let Some(block) = block_of::<F>(file.len(), k) else {
@@ -67,7 +67,7 @@ impl Code {
         share: usize,
         out: &mut [u8],
     ) -> Result<usize, Fault>
-        ensures { Encodes model (numbers self) file.now share out.old out.new result }
+        ensures { Encodes F.model (numbers self) file.now share out.old out.new result }
     {
         let mut symbols = [F::zero(); 16384];
         let mut sums = [F::zero(); 1024];

@@ -9,7 +9,7 @@ pub(crate) fn points_of<F: Field>(shares: &[usize]) -> [F::Symbol; 16]
     requires few { length shares.now ≤ 16 }
     requires known { (i : ℕ) → i < length shares.now → slice_index shares.now i < 32 }
     ensures size { length result ≡ 16 }
-    ensures points { (i : ℕ) → i < length shares.now → slice_index_or result i (sym model.zero) ≡ sym (model.point (slice_index shares.now i)) }
+    ensures points { (i : ℕ) → i < length shares.now → slice_index_or result i (F.sym F.model.zero) ≡ F.sym (F.model.point (slice_index shares.now i)) }
 {
     let mut points = [F::zero(); 16];
     for i in 0..shares.len() {
@@ -23,7 +23,7 @@ pub(crate) fn points_of<F: Field>(shares: &[usize]) -> [F::Symbol; 16]
 
 // The product of y - x over the points x but the one at place b.
 fn product_without<F: Field>(points: &[F::Symbol], b: usize, y: F::Symbol) -> F::Symbol
-    ensures { result ≡ sym (others model (entry elem (sym model.zero) points.now) b (length points.now) (elem y)) }
+    ensures { result ≡ F.sym (others F.model (entry F.elem (F.sym F.model.zero) points.now) b (length points.now) (F.elem y)) }
 {
     let mut product = F::one();
     for m in 0..points.len() {
@@ -37,7 +37,7 @@ fn product_without<F: Field>(points: &[F::Symbol], b: usize, y: F::Symbol) -> F:
 // The weight of the value at point b in the value at y.
 fn weight_of<F: Field>(points: &[F::Symbol], b: usize, y: F::Symbol) -> F::Symbol
     requires { b < length points.now }
-    ensures { result ≡ sym (weight model (entry elem (sym model.zero) points.now) (length points.now) (elem y) b) }
+    ensures { result ≡ F.sym (weight F.model (entry F.elem (F.sym F.model.zero) points.now) (length points.now) (F.elem y) b) }
 {
     let above = product_without::<F>(points, b, y);
     let below = product_without::<F>(points, b, points[b]);
@@ -47,7 +47,7 @@ fn weight_of<F: Field>(points: &[F::Symbol], b: usize, y: F::Symbol) -> F::Symbo
 // Adds a row, each symbol times the weight, to the sums.
 fn add_scaled<F: Field>(sums: &mut [F::Symbol], row: &[F::Symbol], weight: F::Symbol)
     requires { length row.now ≤ length sums.old }
-    ensures { (i : ℕ) → i < length row.now → slice_index_or sums.new i (sym model.zero) ≡ sym (model.add (entry elem (sym model.zero) sums.old i) (model.mul (elem weight) (entry elem (sym model.zero) row.now i))) }
+    ensures { (i : ℕ) → i < length row.now → slice_index_or sums.new i (F.sym F.model.zero) ≡ F.sym (F.model.add (entry F.elem (F.sym F.model.zero) sums.old i) (F.model.mul (F.elem weight) (entry F.elem (F.sym F.model.zero) row.now i))) }
 {
     for i in 0..row.len() {
         sums[i] = F::add(sums[i], F::mul(weight, row[i]));
@@ -57,7 +57,7 @@ fn add_scaled<F: Field>(sums: &mut [F::Symbol], row: &[F::Symbol], weight: F::Sy
 // Sets the first symbols to zero.
 fn clear<F: Field>(sums: &mut [F::Symbol], count: usize)
     requires { count ≤ length sums.old }
-    ensures { (i : ℕ) → i < count → slice_index_or sums.new i (sym model.zero) ≡ sym model.zero }
+    ensures { (i : ℕ) → i < count → slice_index_or sums.new i (F.sym F.model.zero) ≡ F.sym F.model.zero }
 {
     let zero = F::zero();
     for i in 0..count {
@@ -77,7 +77,7 @@ pub(crate) fn interpolate<F: Field>(
     requires short { block ≤ 1024 }
     requires whole { length points.now * block ≤ length rows.now }
     requires room { block ≤ length sums.old }
-    ensures { (i : ℕ) → i < block → slice_index_or sums.new i (sym model.zero) ≡ sym (interpolated model (entry elem (sym model.zero) points.now) (λ m. entry elem (sym model.zero) rows.now (m * block + i)) (length points.now) (elem y)) }
+    ensures { (i : ℕ) → i < block → slice_index_or sums.new i (F.sym F.model.zero) ≡ F.sym (interpolated F.model (entry F.elem (F.sym F.model.zero) points.now) (λ m. entry F.elem (F.sym F.model.zero) rows.now (m * block + i)) (length points.now) (F.elem y)) }
 {
     clear::<F>(sums, block);
     for m in 0..points.len() {

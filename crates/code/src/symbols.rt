@@ -7,7 +7,7 @@ use field::Field;
 
 // How many bytes a symbol is stored in: the field's constant. Its value is not known here, so the field's own answer confirms it.
 pub(crate) fn width_of<F: Field>() -> usize
-    ensures { result ≡ model.width }
+    ensures { result ≡ F.model.width }
 {
     let width = F::WIDTH;
     if width == F::stored_width() {
@@ -20,7 +20,7 @@ pub(crate) fn width_of<F: Field>() -> usize
 // The length of a block of a file of this length, or none where the file has no shares.
 pub(crate) fn block_of<F: Field>(len: usize, k: usize) -> Option<usize>
     requires { 1 ≤ k }
-    ensures { MatchOption result (Sized len k model.width → ⊥) (λ b. (b ≡ block_length len k) × Sized len k model.width) }
+    ensures { MatchOption result (Sized len k F.model.width → ⊥) (λ b. (b ≡ block_length len k) × Sized len k F.model.width) }
 {
     if len == 0 {
         return None;
@@ -41,7 +41,7 @@ pub(crate) fn block_of<F: Field>(len: usize, k: usize) -> Option<usize>
 pub(crate) fn load_file<F: Field>(file: &[u8], count: usize, symbols: &mut [F::Symbol])
     requires whole { length file.now ≤ count }
     requires room { count ≤ length symbols.old }
-    ensures { (t : ℕ) → t < count → slice_index_or symbols.new t (sym model.zero) ≡ sym (model.byte (slice_index file.now t)) }
+    ensures { (t : ℕ) → t < count → slice_index_or symbols.new t (F.sym F.model.zero) ≡ F.sym (F.model.byte (slice_index file.now t)) }
 {
     for t in 0..file.len() {
         symbols[t] = F::from_byte(file[t]);
@@ -55,9 +55,9 @@ pub(crate) fn load_file<F: Field>(file: &[u8], count: usize, symbols: &mut [F::S
 // Writes the stored forms of the first symbols to the start of the buffer.
 pub(crate) fn store<F: Field>(symbols: &[F::Symbol], count: usize, out: &mut [u8])
     requires some { count ≤ length symbols.now }
-    requires small { count * model.width ≤ 1024 }
-    requires room { count * model.width ≤ length out.old }
-    ensures { out.new ≡ serial model (entry elem (sym model.zero) symbols.now) count ++ drop (count * model.width) out.old }
+    requires small { count * F.model.width ≤ 1024 }
+    requires room { count * F.model.width ≤ length out.old }
+    ensures { out.new ≡ serial F.model (entry F.elem (F.sym F.model.zero) symbols.now) count ++ drop (count * F.model.width) out.old }
 {
     let width = width_of::<F>();
     for i in 0..count {
@@ -69,9 +69,9 @@ pub(crate) fn store<F: Field>(symbols: &[F::Symbol], count: usize, out: &mut [u8
 pub(crate) fn read_symbols<F: Field>(bytes: &[u8], count: usize, symbols: &mut [F::Symbol]) -> bool
     requires room { count ≤ length symbols.old }
     requires few { count ≤ 16384 }
-    requires whole { length bytes.now ≡ count * model.width }
-    requires small { count * model.width ≤ 16384 }
-    ensures { MatchBool result ((t : ℕ) → t < count → model.stored (entry elem (sym model.zero) symbols.new t) ≡ take model.width (drop (t * model.width) bytes.now)) ((t : ℕ) × (t < count) × ((e : elements) → model.stored e ≢ take model.width (drop (t * model.width) bytes.now))) }
+    requires whole { length bytes.now ≡ count * F.model.width }
+    requires small { count * F.model.width ≤ 16384 }
+    ensures { MatchBool result ((t : ℕ) → t < count → F.model.stored (entry F.elem (F.sym F.model.zero) symbols.new t) ≡ take F.model.width (drop (t * F.model.width) bytes.now)) ((t : ℕ) × (t < count) × ((e : F.elements) → F.model.stored e ≢ take F.model.width (drop (t * F.model.width) bytes.now))) }
 {
     let width = width_of::<F>();
     for t in 0..count {
@@ -92,7 +92,7 @@ pub(crate) fn bytes_of<F: Field>(
 ) -> bool
     requires some { count ≤ length symbols.now }
     requires room { start + count ≤ length out.old }
-    ensures bytes { MatchBool result ((i : ℕ) → i < count → (slice_index out.new (start + i) < 256) × (model.byte (slice_index out.new (start + i)) ≡ entry elem (sym model.zero) symbols.now i)) ((i : ℕ) × (i < count) × ((b : ℕ) → b < 256 → model.byte b ≢ entry elem (sym model.zero) symbols.now i)) }
+    ensures bytes { MatchBool result ((i : ℕ) → i < count → (slice_index out.new (start + i) < 256) × (F.model.byte (slice_index out.new (start + i)) ≡ entry F.elem (F.sym F.model.zero) symbols.now i)) ((i : ℕ) × (i < count) × ((b : ℕ) → b < 256 → F.model.byte b ≢ entry F.elem (F.sym F.model.zero) symbols.now i)) }
     ensures kept { (t : ℕ) → t < start → slice_index out.new t ≡ slice_index out.old t }
 {
     for i in 0..count {

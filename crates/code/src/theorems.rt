@@ -6,8 +6,8 @@ use field::Field;
 
 // Over every field one polynomial goes through k points, and each share of each file has one payload.
 pub fn payloads_stand<F: Field>() -> u8
-    ensures polynomial { OnePolynomial model }
-    ensures payload { OnePayload model }
+    ensures polynomial { OnePolynomial F.model }
+    ensures payload { OnePayload F.model }
 {
     0
 }
