@@ -70,14 +70,22 @@ opens l img m ok = (
 
 -- the facts that an open image keeps
 abbrev pub Kept : List ℕ → Type 0
-Kept img =
-    ((1 ≤ sleds_of img) × (sleds_of img ≤ 32))
-    × (((1 ≤ cells_of img) × (cells_of img ≤ 64))
-    × (((slice_index img 6 ≡ 0) × (slice_index img 7 ≡ 0))
-    × ((length img ≡ 8 + sleds_of img * (cells_of img * 1040)) × (((k : ℕ) → slice_index img k < 256) × Unit {0}))))
+Kept img = record {
+  sleds : (1 ≤ sleds_of img) × (sleds_of img ≤ 32);
+  cells : (1 ≤ cells_of img) × (cells_of img ≤ 64);
+  zeros : (slice_index img 6 ≡ 0) × (slice_index img 7 ≡ 0);
+  whole : length img ≡ 8 + sleds_of img * (cells_of img * 1040);
+  typed : (k : ℕ) → slice_index img k < 256;
+}
 
 pub kept : (img : List ℕ) → Shape img → ((k : ℕ) → slice_index img k < 256) → Kept img
-kept img ok typed = ((ok.some_sleds, ok.few_sleds), ((ok.some_cells, ok.few_cells), (ok.zeros, (ok.whole, (typed, tt)))))
+kept img ok typed = record {
+  sleds = (ok.some_sleds, ok.few_sleds);
+  cells = (ok.some_cells, ok.few_cells);
+  zeros = ok.zeros;
+  whole = ok.whole;
+  typed = typed;
+}
 
 -- rows of z bytes, one after another
 row_end : (j k z : ℕ) → j < k → j * z + z ≤ k * z
