@@ -1,10 +1,10 @@
 -- The examples worked by hand. Assumes nothing.
-use Rattle.std.proofs.Common.{◌≡◌, ℕ, suc, ◌+◌, ◌*◌, ◌/◌, ◌<◌, List, [], ◌∷◌, length, get_or, sym, refl, ap, subst, arith, lit<}
+use Rattle.std.proofs.Common.{◌≡◌, ℕ, suc, ◌+◌, ◌*◌, ◌<◌, [], ◌∷◌, get_or, refl, arith, lit<}
 use Rattle.field.specs.Model.{Ops}
-use Rattle.field.specs.Residues.{Below, square_chain}
+use Rattle.field.specs.Residues.{square_chain}
 use Rattle.field.specs.Binary as two
 use Rattle.field.specs.Prime as prime
-use Rattle.code.specs.Polynomials.{eval, Through}
+use Rattle.code.specs.Polynomials.{eval}
 use Rattle.code.specs.Shares.{block_length, block_byte, serial, Payload}
 use Rattle.code.specs.Decoding.{symbol_bytes, Fits, Right, Decodes}
 use Rattle.code.specs.Examples.{Worked}

@@ -1,5 +1,5 @@
 -- Operations on symbols of the machine, by what the symbols stand for. Assumes nothing.
-use Rattle.std.proofs.Common.{◌≡◌, sym, refl, ap, ◌∙◌, ap₂}
+use Rattle.std.proofs.Common.{◌≡◌, ap, ◌∙◌, ap₂}
 
 module _ {S E : Type 0} (elem : S → E) (code : E → S) (back : (e : E) → elem (code e) ≡ e) where
   pub known : {x : S} {a : E} → x ≡ code a → elem x ≡ a

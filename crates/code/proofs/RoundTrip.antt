@@ -1,5 +1,5 @@
 -- Any k different shares of a file give it back. Assumes nothing.
-use Rattle.std.proofs.Common.{◌≡◌, ℕ, suc, ◌+◌, ◌*◌, ◌<◌, ◌≤◌, true, ◌⊎◌, List, [], ◌∷◌, ◌++◌, length, get_or, take, drop, Ok, Err, Result, sym, refl, ap, ◌∙◌, subst, inl, inr, le_refl, not-suc-le-zero, arith, length-drop, take_all}
+use Rattle.std.proofs.Common.{◌≡◌, ℕ, suc, ◌+◌, ◌*◌, ◌<◌, ◌≤◌, true, List, [], ◌∷◌, ◌++◌, length, get_or, take, drop, Ok, Err, Result, sym, refl, ap, ◌∙◌, subst, inl, inr, le_refl, not-suc-le-zero, arith, length-drop, take_all}
 use Rattle.std.proofs.lemmas.Nat.{mul-le}
 use Rattle.std.proofs.lemmas.Bool.{cases_eq}
 use Rattle.std.proofs.lemmas.List.{drop-drop, drop_at, take-append-le, drop-append-le}
@@ -7,7 +7,7 @@ use Rattle.refusal.specs.declared.Fault.{Fault}
 use Rattle.field.specs.Model.{Ops, Laws}
 use Rattle.code.specs.Polynomials.{eval}
 use Rattle.code.specs.Shares.{Bytes, block_length, block_byte, serial, Payload}
-use Rattle.code.specs.Decoding.{symbol_bytes, Fits, Decodes, Outside, NoByte, SharesOf, payload_at}
+use Rattle.code.specs.Decoding.{symbol_bytes, Fits, Decodes, Outside, SharesOf, payload_at}
 use Rattle.code.specs.Codes.{Numbers}
 use Rattle.code.specs.Calls.{Recovers}
 use Rattle.code.specs.Theorems.{GivesBack}

@@ -1,5 +1,5 @@
 -- A list that is written one place after another. Assumes nothing.
-use Rattle.std.proofs.Common.{◌≡◌, ℕ, ◌+◌, ◌<◌, ◌≤◌, ◌≢◌, List, length, get_or, set, arith, get_or-set_other, get_or-set_same, below_more}
+use Rattle.std.proofs.Common.{◌≡◌, ℕ, ◌+◌, ◌<◌, ◌≢◌, List, length, get_or, set, arith, get_or-set_other, get_or-set_same, below_more}
 
 -- what holds at the places below i holds at those below i + 1, once place i is written
 pub one_more : {S : Type 0} (z : S) (xs : List S) (i : ℕ) (v : S) (P : ℕ → S → Type 0) → i < length xs → ((t : ℕ) → t < i → P t (get_or xs t z)) → P i v

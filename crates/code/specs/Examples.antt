@@ -1,5 +1,5 @@
 -- Examples worked by hand. Assumes nothing.
-use Rattle.std.specs.Prelude.{◌≡◌, List, [], ◌∷◌}
+use Rattle.std.specs.Prelude.{◌≡◌, [], ◌∷◌}
 use Rattle.field.specs.Binary as two
 use Rattle.field.specs.Prime as prime
 use Rattle.code.specs.Shares.{Payload}

@@ -1,5 +1,5 @@
 -- The shares that the program makes. Assumes nothing.
-use Rattle.std.specs.Prelude.{◌≡◌, ℕ, zero, suc, ◌<◌, Bool, false, cond, ◌||◌, List, [], ◌∷◌, ◌++◌, length, vec_items, slice_index_or}
+use Rattle.std.specs.Prelude.{◌≡◌, ℕ, ◌<◌, List, length, vec_items, slice_index_or}
 use Rattle.code.specs.declared.shape.Code.{Code}
 use Rattle.code.specs.Codes.{numbers, field_of}
 use Rattle.code.specs.Shares.{Bytes, Payload}

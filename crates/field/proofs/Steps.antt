@@ -1,6 +1,6 @@
 -- What the loops of the two fields do in a turn. Assumes nothing.
-use Rattle.std.proofs.Common.{◌≡◌, ℕ, zero, suc, ◌+◌, ◌-◌, ◌*◌, ◌/◌, ◌%◌, ◌^◌, ◌<◌, ◌≤◌, Bool, true, false, cond, T, eqb, ltb, List, [], ◌∷◌, length, get_or, drop, set, sym, refl, ap, ◌∙◌, subst, ap₂, mod-eq_of_lt, one-mul, pow-suc, zero-mul, arith, lit<, eqb→eq}
-use lib.Bits.{bit_xor, xor_lt, xor_shifted, xor_comm, xor_assoc, xor_zero_r}
+use Rattle.std.proofs.Common.{◌≡◌, ℕ, zero, suc, ◌+◌, ◌-◌, ◌*◌, ◌/◌, ◌%◌, ◌^◌, ◌<◌, ◌≤◌, Bool, T, eqb, List, [], ◌∷◌, length, get_or, drop, set, sym, refl, ap, ◌∙◌, ap₂, mod-eq_of_lt, one-mul, pow-suc, zero-mul, arith, lit<, eqb→eq}
+use lib.Bits.{bit_xor, xor_lt, xor_shifted, xor_comm, xor_assoc}
 use Rattle.field.specs.Residues.{square_chain}
 use Rattle.field.specs.Binary.{product, remainder, times, power_of_two, point_of}
 use Rattle.field.specs.Computed.{both, every, at}

@@ -1,5 +1,5 @@
 -- The numbers below n. Assumes nothing.
-use Rattle.std.specs.Prelude.{◌≡◌, ℕ, ◌<◌, T, nat_lt, refl}
+use Rattle.std.specs.Prelude.{◌≡◌, ℕ, ◌<◌, nat_lt, refl}
 use mathlib.Core.HLevel.{Σ_prop_path}
 use Rattle.std.proofs.Common.{mod-eq_of_lt, lt→ltb, ltb→lt}
 use Rattle.std.proofs.Math.Dec.{T_prop}

@@ -1,5 +1,5 @@
 -- The field of 256 symbols: a symbol is a byte, read as a polynomial over 0 and 1, bit i being the coefficient of x^i. Assumes nothing.
-use Rattle.std.specs.Prelude.{ℕ, zero, suc, ◌+◌, ◌*◌, ◌/◌, ◌%◌, ◌^◌, List, [], ◌∷◌, bit_xor, slice_index}
+use Rattle.std.specs.Prelude.{ℕ, zero, suc, ◌+◌, ◌*◌, ◌/◌, ◌%◌, ◌^◌, [], ◌∷◌, bit_xor, slice_index}
 use Rattle.std.proofs.Common.{lit<}
 use Rattle.field.specs.Model.{Ops}
 use Rattle.field.specs.Residues.{Below, modulo, square_chain}

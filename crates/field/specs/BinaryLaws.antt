@@ -1,10 +1,9 @@
 -- The laws of the field of 256 symbols: each is linear in each of its arguments, and so holds since it holds at the powers of two. Assumes nothing.
-use Rattle.std.specs.Prelude.{◌≡◌, ℕ, zero, suc, ◌+◌, ◌*◌, ◌/◌, ◌%◌, ◌^◌, ◌<◌, Bool, true, false, cond, T, List, [], ◌∷◌, length, ◌==◌, ◌≢◌, bit_xor, nat_lt, slice_index, slice_index_or, refl}
+use Rattle.std.specs.Prelude.{◌≡◌, ℕ, zero, suc, ◌%◌, ◌^◌, ◌<◌, Bool, T, List, [], ◌∷◌, ◌==◌, ◌≢◌, bit_xor, nat_lt, slice_index, slice_index_or, refl}
 use Rattle.std.proofs.Common.{sym, ap, ap₂, subst, ◌∙◌, arith, mod-eq_of_lt, eqb→eq, ltb→lt, lit<}
 use Rattle.std.proofs.lemmas.Nat.{xor_lt, xor_comm}
 use Rattle.std.specs.Int.Bits.{xor_self, xor_assoc, xor_zero_r}
-use Rattle.std.proofs.lemmas.Bool.{cases_eq}
-use Rattle.field.specs.Model.{Ops, Laws}
+use Rattle.field.specs.Model.{Laws}
 use Rattle.field.specs.Residues.{Below, square_chain}
 use Rattle.field.specs.Below.{bound, same, modulo-below, counted}
 use Rattle.field.specs.Binary.{product, remainder, times, inverse_of, power_of_two, point_of, symbol, binary}

@@ -1,7 +1,7 @@
 -- Polynomials over 0 and 1: what is linear, and what holds at the powers of two and is kept by exclusive or. Assumes nothing.
-use Rattle.std.specs.Prelude.{◌≡◌, ℕ, zero, suc, ◌+◌, ◌*◌, ◌/◌, ◌%◌, ◌^◌, ◌<◌, ◌⊎◌, bit_xor, refl}
-use Rattle.std.proofs.Common.{sym, ap, ap₂, subst, ◌∙◌, inl, inr, arith, not-suc-le-zero, zero-mul, one-mul, pow-suc, mod-lt, mul_comm, lit<, pow_pos}
-use Rattle.std.specs.Int.Bits.{xor_assoc, xor_zero_r, xor_zero_l, xor_self, xor_shifted}
+use Rattle.std.specs.Prelude.{◌≡◌, ℕ, zero, suc, ◌+◌, ◌*◌, ◌/◌, ◌%◌, ◌^◌, ◌<◌, bit_xor, refl}
+use Rattle.std.proofs.Common.{sym, ap, ap₂, subst, ◌∙◌, inl, inr, arith, zero-mul, one-mul, pow-suc, lit<, pow_pos}
+use Rattle.std.specs.Int.Bits.{xor_assoc, xor_zero_r, xor_self, xor_shifted}
 use Rattle.std.proofs.lemmas.Nat.{div_below, shr_split, mod_below, xor_comm, xor_shr, xor_mod, xor_block}
 use Rattle.std.proofs.lemmas.Bool.{cases_eq}
 use Rattle.field.specs.Binary.{product, remainder, times}

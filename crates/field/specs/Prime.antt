@@ -1,5 +1,5 @@
 -- The field of the 257 whole numbers modulo 257. Assumes nothing.
-use Rattle.std.specs.Prelude.{ℕ, ◌+◌, ◌-◌, ◌*◌, ◌/◌, ◌%◌, List, [], ◌∷◌, slice_index}
+use Rattle.std.specs.Prelude.{ℕ, ◌+◌, ◌-◌, ◌*◌, ◌/◌, ◌%◌, [], ◌∷◌, slice_index}
 use Rattle.std.proofs.Common.{lit<}
 use Rattle.field.specs.Model.{Ops}
 use Rattle.field.specs.Residues.{Below, modulo, square_chain}

@@ -1,11 +1,11 @@
 -- The laws of the numbers modulo 257. Assumes nothing.
-use Rattle.std.specs.Prelude.{◌≡◌, ℕ, zero, suc, ◌+◌, ◌-◌, ◌*◌, ◌/◌, ◌%◌, ◌<◌, Bool, T, List, [], ◌∷◌, length, ◌==◌, ◌≢◌, slice_index, refl}
-use Rattle.std.proofs.Common.{sym, ap, ap₂, subst, ◌∙◌, arith, mod-eq_of_lt, mod-lt, mul_comm, mul_assoc, mul-add, add-mul, eqb→eq, lit<}
+use Rattle.std.specs.Prelude.{◌≡◌, ℕ, zero, suc, ◌+◌, ◌*◌, ◌/◌, ◌%◌, ◌<◌, Bool, T, [], ◌∷◌, ◌==◌, ◌≢◌, slice_index, refl}
+use Rattle.std.proofs.Common.{sym, ap, ◌∙◌, arith, mul_comm, mul_assoc, mul-add, eqb→eq, lit<}
 use Rattle.std.proofs.Math.Nat.{mod-add-div, add-mul-mod_self_left, add-mod}
-use Rattle.field.specs.Model.{Ops, Laws}
+use Rattle.field.specs.Model.{Laws}
 use Rattle.field.specs.Residues.{Below, square_chain}
 use Rattle.field.specs.Below.{bound, same, counted}
-use Rattle.field.specs.Prime.{times, inverse_of, symbol, prime}
+use Rattle.field.specs.Prime.{inverse_of, symbol, prime}
 use Rattle.field.specs.Computed.{both, every, at}
 
 -- a remainder in a product

@@ -1,5 +1,5 @@
 -- The payloads of some shares, one after another. Assumes nothing.
-use Rattle.std.proofs.Common.{◌≡◌, ℕ, ◌+◌, ◌<◌, List, [], ◌∷◌, ◌++◌, map, length, get_or, take, sym, refl, ap, ◌∙◌, append_assoc, append-nil}
+use Rattle.std.proofs.Common.{◌≡◌, ℕ, List, [], ◌∷◌, ◌++◌, map, get_or, sym, ap, ◌∙◌, append_assoc, append-nil}
 use Rattle.rack.specs.declared.shares.Share.{Share}
 use Rattle.rack.specs.Shares.{payload_of, joined}
 

@@ -1,5 +1,5 @@
 -- The shares that the program makes and gathers. Assumes nothing.
-use Rattle.std.specs.Prelude.{◌≡◌, ℕ, zero, suc, ◌<◌, Bool, true, false, cond, ◌||◌, List, [], ◌∷◌, ◌++◌, map, length, vec_items, ◌==◌, slice_index_or}
+use Rattle.std.specs.Prelude.{◌≡◌, ℕ, zero, suc, ◌<◌, Bool, false, cond, ◌||◌, List, [], ◌∷◌, ◌++◌, map, length, vec_items, ◌==◌, slice_index_or}
 use Rattle.code.specs.declared.shape.Code.{Code}
 use Rattle.code.specs.Codes.{numbers, field_of}
 use Rattle.code.specs.Shares.{Bytes, Payload}

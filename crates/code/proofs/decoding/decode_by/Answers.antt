@@ -1,4 +1,4 @@
-use Rattle.std.proofs.Common.{◌≡◌, ℕ, subst}
+use Rattle.std.proofs.Common.{ℕ, subst}
 use Rattle.code.specs.Codes.{field_of, numbers}
 use Rattle.code.specs.Calls.{Recovers}
 use Rattle.code.specs.Theorems.{GivesBack}

@@ -1,11 +1,11 @@
-use Rattle.std.proofs.Common.{◌≡◌, ℕ, ◌+◌, ◌-◌, ◌*◌, ◌<◌, ◌≤◌, ◌++◌, length, get_or, take, drop, sym, refl, ap, ◌∙◌, subst, ap₂, inl, inr, arith, rules}
+use Rattle.std.proofs.Common.{◌≡◌, ℕ, ◌-◌, ◌*◌, ◌<◌, ◌≤◌, ◌++◌, length, take, drop, sym, refl, ap, ◌∙◌, subst, ap₂, inl, inr, arith, rules}
 use Rattle.std.proofs.lemmas.List.{get_or-take, length-take-le}
 use Rattle.refusal.specs.Refusals.{refusal_of}
 use Rattle.code.specs.Lagrange.{entry}
 use Rattle.code.specs.Shares.{Sized, block_length, serial}
 use Rattle.code.specs.Calls.{Encoded}
 use Rattle.code.proofs.Blocks.{sizes, serial-length}
-use Rattle.code.proofs.First.{first, first_is, first_length}
+use Rattle.code.proofs.First.{first_is, first_length}
 use Rattle.code.proofs.Payloads.{same_payload, sums_payload}
 use Rattle.code.proofs.encoding.encode_with.Given as given
 use Rattle.code.proofs.encoding.encode_with.Goals as goal

@@ -1,6 +1,6 @@
 use Rattle.std.proofs.Common.{◌≡◌, get_or, sym, ap, ◌∙◌, rules}
 use borrow.Author.Rules.{get_or_read}
-use Rattle.code.specs.Lagrange.{entry, others}
+use Rattle.code.specs.Lagrange.{entry}
 use Rattle.code.proofs.Coded as coded
 use Rattle.code.proofs.Turns.{others_none, others_more, others_skip}
 use Rattle.code.proofs.interpolation.product_without.Goals as goal

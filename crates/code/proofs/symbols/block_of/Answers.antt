@@ -1,5 +1,4 @@
-use Rattle.std.proofs.Common.{◌≡◌, ℕ, ◌+◌, ◌-◌, ◌*◌, ◌/◌, ◌≤◌, sym, refl, ap, ◌∙◌, ap₂, arith, rules}
-use Rattle.code.specs.Shares.{block_length, Sized}
+use Rattle.std.proofs.Common.{ℕ, ◌+◌, ◌-◌, ◌*◌, ◌/◌, ◌≤◌, arith}
 use Rattle.code.proofs.Blocks.{rounded, sides, width_positive}
 use Rattle.code.proofs.symbols.block_of.Goals as goal
 

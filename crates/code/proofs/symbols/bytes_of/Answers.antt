@@ -1,4 +1,4 @@
-use Rattle.std.proofs.Common.{◌≡◌, ℕ, ◌+◌, ◌<◌, get_or, sym, ap, ◌∙◌, arith, rules}
+use Rattle.std.proofs.Common.{◌≡◌, ◌+◌, ◌<◌, get_or, sym, ap, ◌∙◌, arith, rules}
 use borrow.Author.Rules.{get_or_read}
 use Rattle.code.specs.Lagrange.{entry}
 use Rattle.code.proofs.Writes.{one_more_from, others_stay}

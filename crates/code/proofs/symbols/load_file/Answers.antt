@@ -1,4 +1,4 @@
-use Rattle.std.proofs.Common.{◌≡◌, ℕ, get_or, sym, ap, ◌∙◌, not-suc-le-zero, arith, rules}
+use Rattle.std.proofs.Common.{◌≡◌, get_or, sym, ap, ◌∙◌, not-suc-le-zero, arith, rules}
 use Rattle.std.proofs.lemmas.List.{get_or_past}
 use Rattle.code.proofs.Writes.{one_more}
 use Rattle.code.proofs.symbols.load_file.Goals as goal

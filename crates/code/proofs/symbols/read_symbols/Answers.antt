@@ -1,4 +1,4 @@
-use Rattle.std.proofs.Common.{◌≡◌, ℕ, ◌*◌, ◌≤◌, List, length, take, drop, sym, ap, ◌∙◌, subst, arith, rules}
+use Rattle.std.proofs.Common.{◌≡◌, ◌*◌, ◌≤◌, length, take, drop, sym, ◌∙◌, arith, rules}
 use Rattle.code.proofs.Rows.{row_ends, row_is}
 use Rattle.code.proofs.Writes.{one_more}
 use Rattle.code.proofs.symbols.read_symbols.Goals as goal

@@ -1,4 +1,4 @@
-use Rattle.std.proofs.Common.{◌≡◌, ℕ, ◌+◌, ◌-◌, sym, refl, ap, ◌∙◌, ap₂, arith, rules}
+use Rattle.std.proofs.Common.{◌+◌, ◌-◌, sym, ap, ◌∙◌, ap₂, rules}
 use Rattle.field.specs.Residues.{square_chain}
 use Rattle.field.specs.Binary.{times, inverse_of}
 use Rattle.field.proofs.Steps.{chain_more, chain_none}

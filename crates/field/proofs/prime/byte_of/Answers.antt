@@ -1,4 +1,4 @@
-use Rattle.std.proofs.Common.{◌≡◌, ℕ, ◌%◌, ap, arith, rules}
+use Rattle.std.proofs.Common.{◌≡◌, ◌%◌, ap, arith, rules}
 use native.Mathlib.Nat.{mod-mod}
 use Rattle.field.specs.Residues.{Below}
 use Rattle.field.specs.Below.{same}

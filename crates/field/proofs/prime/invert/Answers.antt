@@ -1,4 +1,4 @@
-use Rattle.std.proofs.Common.{◌≡◌, ℕ, ◌+◌, ◌-◌, sym, refl, ap, ◌∙◌, ap₂, arith, rules}
+use Rattle.std.proofs.Common.{◌+◌, ◌-◌, sym, refl, ◌∙◌, ap₂, rules}
 use native.Mathlib.Nat.{mod-mod}
 use Rattle.field.specs.Residues.{square_chain}
 use Rattle.field.specs.Prime.{times, inverse_of}

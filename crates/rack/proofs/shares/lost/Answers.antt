@@ -1,4 +1,4 @@
-use Rattle.std.proofs.Common.{◌≡◌, true, false, [], ◌∷◌, ◌++◌, length, get_or, vec_items, sym, refl, ap, ◌∙◌, append-nil, arith, eq-eqb, eqb-true}
+use Rattle.std.proofs.Common.{true, false, get_or, vec_items, sym, ap, ◌∙◌, append-nil, arith, eq-eqb, eqb-true}
 use Rattle.rack.specs.Shares.{absent}
 use Rattle.rack.proofs.Absences.{not_both, stands_at, stands_nowhere, absent_more}
 use Rattle.rack.proofs.shares.lost.Goals as goal

@@ -1,4 +1,4 @@
-use Rattle.std.proofs.Common.{◌≡◌, ◌++◌, length, take, drop, sym, ap, ◌∙◌, append-nil, arith, take_at}
+use Rattle.std.proofs.Common.{◌≡◌, ◌++◌, length, drop, sym, ap, ◌∙◌, append-nil, arith, take_at}
 use Rattle.std.proofs.lemmas.List.{drop_all}
 use Rattle.rack.proofs.shares.restore.Goals as goal
 

@@ -1,4 +1,4 @@
-use Rattle.std.proofs.Common.{◌≡◌, ℕ, ◌<◌, [], ◌∷◌, get_or, sym, ap, ◌∙◌, mod-eq_of_lt, rules}
+use Rattle.std.proofs.Common.{ℕ, ◌<◌, [], ◌∷◌, get_or, sym, ap, ◌∙◌, mod-eq_of_lt, rules}
 use Rattle.field.proofs.Steps.{one_is}
 use Rattle.field.proofs.binary.BinaryField.read.Goals as goal
 

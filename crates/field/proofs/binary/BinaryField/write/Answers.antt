@@ -1,4 +1,4 @@
-use Rattle.std.proofs.Common.{◌≡◌, ℕ, ◌<◌, ◌∷◌, drop, sym, ap, ◌∙◌, mod-eq_of_lt, rules}
+use Rattle.std.proofs.Common.{ℕ, ◌<◌, ◌∷◌, drop, sym, ap, ◌∙◌, mod-eq_of_lt, rules}
 use Rattle.field.proofs.Steps.{set-one}
 use Rattle.field.proofs.binary.BinaryField.write.Goals as goal
 
