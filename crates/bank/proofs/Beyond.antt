@@ -1,6 +1,6 @@
 -- Past the bounds of a rack there is nothing. Assumes nothing.
 use Rattle.std.proofs.Common.{◌≡◌, ℕ, ◌<◌, ◌≤◌, Bool, true, false, List, [], ◌∷◌, length, None, refl, ap, ⊎_elim, arith}
-use Rattle.std.specs.List.{AllByRecursion as All}
+use Rattle.std.specs.List.{AllByRecursion}
 use Rattle.std.proofs.lemmas.List.{get_or_past}
 use Rattle.std.proofs.ByRecursion.{All-get_or}
 use Rattle.std.proofs.lemmas.Bool.{cases_lt}
@@ -9,7 +9,7 @@ use Rattle.bank.specs.Meaning.{Rack, Share, Sound, SoundShare, SoundSled, sled_a
 use Rattle.bank.specs.Theorems.{EmptyBeyond}
 
 -- no share has a number from 32 on
-none_high : (xs : List Share) (id n : ℕ) → All SoundShare xs → 32 ≤ n → lookup xs id n ≡ None
+none_high : (xs : List Share) (id n : ℕ) → AllByRecursion SoundShare xs → 32 ≤ n → lookup xs id n ≡ None
 none_high [] id n h le = refl
 none_high (x ∷ xs) id n h le = by_cases (keyed x id n) refl (none_high xs id n h.1 le)
   where

@@ -1,7 +1,7 @@
 -- A rack whose sleds are under quotas. Assumes nothing.
 use Rattle.std.specs.Prelude.{◌≡◌, ℕ, zero, suc, ◌-◌, ◌<◌, ◌≤◌, min, Bool, List, [], ◌∷◌, length, is_some, Result, ◌≢◌, refl}
 use Rattle.std.proofs.Common.{sym, ap, subst, ◌∙◌, inl, inr, arith}
-use Rattle.std.specs.List.{AllByRecursion as All}
+use Rattle.std.specs.List.{AllByRecursion}
 use Rattle.refusal.specs.declared.Fault.{Fault}
 use Rattle.refusal.specs.Refusals.{refusal_of}
 use Rattle.refusal.specs.Grounds.{Clear, Answers}
@@ -31,7 +31,7 @@ sled_at-limited q (s ∷ rest) (suc k) = sled_at-limited (λ j. q (suc j)) rest 
 sound_under : (q : ℕ) (s : Sled) → SoundSled s → SoundSled (under q s)
 sound_under q s h = record { distinct = h.distinct; sound_shares = h.sound_shares; few = omega arith; small = omega arith }
 
-all_limited : (q : ℕ → ℕ) (rack : Rack) → All SoundSled rack → All SoundSled (limited q rack)
+all_limited : (q : ℕ → ℕ) (rack : Rack) → AllByRecursion SoundSled rack → AllByRecursion SoundSled (limited q rack)
 all_limited q [] h = h
 all_limited q (s ∷ rest) h = (sound_under (q 0) s h.0, all_limited (λ k. q (suc k)) rest h.1)
 

@@ -1,6 +1,6 @@
 -- What a bank means: a rack of sleds, and the shares that each of them holds. Assumes nothing.
 use Rattle.std.specs.Prelude.{◌≡◌, ℕ, ◌+◌, ◌^◌, ◌<◌, ◌≤◌, Bool, cond, ◌&&◌, List, [], ◌∷◌, length, Some, None, Option, ◌==◌, slice_index_or}
-use Rattle.std.specs.List.{AllByRecursion as All}
+use Rattle.std.specs.List.{AllByRecursion}
 
 -- a share of a file: the file's id, the share's number, and its bytes
 pub record Share : Type 0 where
@@ -58,12 +58,12 @@ pub record SoundShare (x : Share) : Type 0 where
   pub id_fits : x.id < 2 ^ 32
   pub number_fits : x.number < 32
   pub sized : PayloadLength (length x.payload)
-  pub bytes : All (λ b. b < 256) x.payload
+  pub bytes : AllByRecursion (λ b. b < 256) x.payload
 
 -- a sled within the bounds: no key twice, and room plus count, and size, at most 4,096
 pub record SoundSled (s : Sled) : Type 0 where
   pub distinct : Distinct s.shares
-  pub sound_shares : All SoundShare s.shares
+  pub sound_shares : AllByRecursion SoundShare s.shares
   pub few : s.room + count s ≤ 4096
   pub small : s.size ≤ 4096
 
@@ -71,4 +71,4 @@ pub record SoundSled (s : Sled) : Type 0 where
 pub record Sound (rack : Rack) : Type 0 where
   pub some : 1 ≤ length rack
   pub at_most : length rack ≤ 32
-  pub sound_sleds : All SoundSled rack
+  pub sound_sleds : AllByRecursion SoundSled rack

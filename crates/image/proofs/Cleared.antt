@@ -1,6 +1,6 @@
 -- States of a sled set to 0: the sled is emptied. Assumes nothing.
 use Rattle.std.proofs.Common.{◌≡◌, ℕ, zero, suc, ◌+◌, ◌-◌, ◌*◌, ◌<◌, ◌≤◌, true, cond, List, [], ◌∷◌, reverse, length, take, sym, refl, ap, ◌∙◌, ap₂, ⊎_elim, arith}
-use Rattle.std.specs.List.{AllByRecursion as All}
+use Rattle.std.specs.List.{AllByRecursion}
 use Rattle.std.proofs.ByRecursion.{All-from_get_or}
 use Rattle.std.proofs.lemmas.List.FromFn.{length-map-range_with_len, get_or-map-range_with_len}
 use Rattle.std.proofs.lemmas.Bool.{cases_eq}
@@ -31,7 +31,7 @@ module _ (l : Layout) (C : ℕ) (bytes : List ℕ) (whole : length bytes ≡ C *
       (cases_eq k n)
 
 -- free places hold nothing, and all of them are room
-all_free : (ps : List Place) → All (λ p. is_free p ≡ true) ps → (shares_of ps ≡ []) × (many is_free ps ≡ length ps)
+all_free : (ps : List Place) → AllByRecursion (λ p. is_free p ≡ true) ps → (shares_of ps ≡ []) × (many is_free ps ≡ length ps)
 all_free [] h = (refl, refl)
 all_free (p ∷ ps) h =
     let rest = all_free ps h.1 in

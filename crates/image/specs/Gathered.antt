@@ -1,7 +1,7 @@
 -- The shares that a list of places holds. Assumes nothing.
 use Rattle.std.specs.Prelude.{◌≡◌, ℕ, suc, ◌+◌, ◌^◌, ◌<◌, ◌≤◌, min, Bool, true, false, cond, not, ◌&&◌, ltb, List, [], ◌∷◌, ◌++◌, map, length, take, is_some, Some, None, Option, ◌==◌, nat_lt, slice_index_or, refl}
 use Rattle.std.proofs.Common.{sym, ap, ◌∙◌, ⊎_elim, arith}
-use Rattle.std.specs.List.{range_with_len, AllByRecursion as All}
+use Rattle.std.specs.List.{range_with_len, AllByRecursion}
 use Rattle.std.proofs.lemmas.List.FromFn.{length-map-range_with_len, get_or-map-range_with_len}
 use Rattle.std.proofs.lemmas.Bool.{eqb-true, and_parts, both_ways, lt-ltb, le-ltb, cases_lt}
 use Rattle.std.proofs.lemmas.Bool.Decides.{nat_tests}
@@ -237,7 +237,7 @@ module _ (pre post : List Place) (new : Place) (sound-new : is_sound new ≡ tru
 pub record Typed (s : Place) : Type 0 where
   pub id_fits : s.id < 2 ^ 32
   pub long : length s.cell ≡ 1024
-  pub bytes : All (λ b. b < 256) s.cell
+  pub bytes : AllByRecursion (λ b. b < 256) s.cell
 
 sound_share : (s : Place) → Typed s → is_sound s ≡ true → SoundShare (share_of s)
 sound_share s t e =
@@ -247,15 +247,15 @@ sound_share s t e =
     let k = length-take s.len s.cell in
     record { id_fits = t.id_fits; number_fits = n; sized = record { some = omega (arith, t.long); fits = omega arith }; bytes = All-take (λ b. b < 256) s.len s.cell t.bytes }
 
-all_add : (xs : List Share) (s : Place) → Typed s → All SoundShare xs → All SoundShare (with_place xs s)
+all_add : (xs : List Share) (s : Place) → Typed s → AllByRecursion SoundShare xs → AllByRecursion SoundShare (with_place xs s)
 all_add xs s t h = by_cases (is_sound s) refl (is_some (lookup xs s.id s.number)) refl
   where
-    by_cases : (b : Bool) → is_sound s ≡ b → (o : Bool) → is_some (lookup xs s.id s.number) ≡ o → All SoundShare (with_place xs s)
+    by_cases : (b : Bool) → is_sound s ≡ b → (o : Bool) → is_some (lookup xs s.id s.number) ≡ o → AllByRecursion SoundShare (with_place xs s)
     by_cases true eb true eo = rw (eb, eo) h
     by_cases true eb false eo = rw (eb, eo) (All-push SoundShare xs (share_of s) h (sound_share s t eb))
     by_cases false eb o eo = rw eb h
 
-pub all_with_places : (xs : List Share) (ss : List Place) → All Typed ss → All SoundShare xs → All SoundShare (with_places xs ss)
+pub all_with_places : (xs : List Share) (ss : List Place) → AllByRecursion Typed ss → AllByRecursion SoundShare xs → AllByRecursion SoundShare (with_places xs ss)
 all_with_places xs [] t h = h
 all_with_places xs (s ∷ ss) t h = all_with_places (with_place xs s) ss t.1 (all_add xs s t.0 h)
 

@@ -1,7 +1,7 @@
 -- An image as a row of sleds. Assumes nothing.
 use Rattle.std.specs.Prelude.{◌≡◌, ℕ, ◌+◌, ◌-◌, ◌*◌, ◌<◌, ◌≤◌, Bool, true, false, List, length, take, drop, ◌≢◌, slice_index, slice_index_or, slice_set, refl}
 use Rattle.std.proofs.Common.{sym, ap, subst, ◌∙◌, ⊎_elim, arith, mul-le-mul_right, add-mul}
-use Rattle.std.specs.List.{AllByRecursion as All}
+use Rattle.std.specs.List.{AllByRecursion}
 use Rattle.std.proofs.lemmas.List.{same_lists, length-take, get_or-take, length-set, get_or-set_same, get_or-set_other, get_or_past}
 use Rattle.std.proofs.lemmas.List.Edits.{length-between}
 use Rattle.std.proofs.ByRecursion.{All-from_get_or, All-take, All-drop}
@@ -129,7 +129,7 @@ module _ (l : Layout) (img : List ℕ) (ok : Shape img) where
     pub rack_bounds : ((i : ℕ) → slice_index img i < 256) → Sound (rack_of l img)
     rack_bounds h =
         let n = length-rack in
-        let bytes : All (λ b. b < 256) img = All-from_get_or (λ b. b < 256) img 0 (λ i lt. h i) in
+        let bytes : AllByRecursion (λ b. b < 256) img = All-from_get_or (λ b. b < 256) img 0 (λ i lt. h i) in
         record {
           some = omega (arith, ok.some_sleds);
           at_most = omega (arith, ok.few_sleds);
