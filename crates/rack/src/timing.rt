@@ -60,7 +60,7 @@ fn time_rounds(
     for _ in 0..ROUNDS {
         times.push(time_round(rt, code, file, payload)?)?;
     }
-    times.sort()?;
+    times.sort_unstable();
     Ok(times)
 }
 
