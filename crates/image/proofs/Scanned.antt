@@ -57,8 +57,8 @@ module _ (l : Layout) (C : ℕ) (bytes : List ℕ) (n : ℕ) (is : n ≡ seen_co
   pub seen_is : scan l C bytes n ≡ seen l (places l C bytes)
   seen_is = ap (scan l C bytes) is ∙ scan_is l C bytes
 
-  held-is : (id k : ℕ) → pick id k turns ≡ held (sled_of l C bytes) id k
-  held-is id k = sym (lookup-places turns id k) ∙ ap (λ ps. lookup (shares_of ps) id k) seen_is
+  held_is : (id k : ℕ) → pick id k turns ≡ held (sled_of l C bytes) id k
+  held_is id k = sym (lookup-places turns id k) ∙ ap (λ ps. lookup (shares_of ps) id k) seen_is
 
   -- a search that ends at a place, whose payload is held
   module _ (j id k e : ℕ) (at : j ≡ position (answers id k) (scan l C bytes n)) (here : e ≡ turn l n j) where
@@ -69,7 +69,7 @@ module _ (l : Layout) (C : ℕ) (bytes : List ℕ) (n : ℕ) (is : n ≡ seen_co
         ∙ ap (λ p. Some (payload_of p)) (sym (get_or-map-range_with_len at_turn 0 n j j (at_turn j) lt (omega arith)))
         ∙ ap (λ i. Some (payload_of (get_or turns i (at_turn j)))) at
         ∙ sym (pick_found id k turns (at_turn j) (omega arith))
-        ∙ held-is id k
+        ∙ held_is id k
 
     pub found_length : j < n → (place_at l C bytes e).len ≤ 1024
     found_length lt =
@@ -85,7 +85,7 @@ module _ (l : Layout) (C : ℕ) (bytes : List ℕ) (n : ℕ) (is : n ≡ seen_co
   pub found_nothing : (j id k : ℕ) → j ≡ position (answers id k) (scan l C bytes n) → n ≤ j → None ≡ held (sled_of l C bytes) id k
   found_nothing j id k at le =
       let all = length-map-range_with_len at_turn 0 n in
-      sym (pick_none id k turns (omega arith)) ∙ held-is id k
+      sym (pick_none id k turns (omega arith)) ∙ held_is id k
 
 -- the room of a zone
 pub zone_room : (l : Layout) (C n : ℕ) (bytes : List ℕ) → l ≡ Zone → n ≡ position is_free (places l C bytes) → C - n ≡ room_of l (places l C bytes)

@@ -45,13 +45,13 @@ lookup-add : (xs : List Share) (s : Place) (i n : ℕ) → lookup (with_place xs
 lookup-add xs s i n = by_cases (is_sound s) refl (lookup xs s.id s.number) refl
   where
     -- the share at hand has the id and number that are looked up, or another
-    key-is : (b : Bool) → (s.id == i) && (s.number == n) ≡ b → cond b (lookup xs s.id s.number ≡ lookup xs i n) (Unit {0})
-    key-is true e = let h = and_parts (s.id == i) (s.number == n) e in
+    key_is : (b : Bool) → (s.id == i) && (s.number == n) ≡ b → cond b (lookup xs s.id s.number ≡ lookup xs i n) (Unit {0})
+    key_is true e = let h = and_parts (s.id == i) (s.number == n) e in
         let p = eqb-true s.id i h.0 in let q = eqb-true s.number n h.1 in cc
-    key-is false e = tt
+    key_is false e = tt
 
     kept : (p : List ℕ) → lookup xs s.id s.number ≡ Some p → (b : Bool) → (s.id == i) && (s.number == n) ≡ b → lookup xs i n ≡ or_else (lookup xs i n) (cond b (Some (payload_of s)) None)
-    kept p eo true e = rw (sym (key-is true e) ∙ eo)
+    kept p eo true e = rw (sym (key_is true e) ∙ eo)
     kept p eo false e = sym (or_else-none (lookup xs i n))
 
     by_cases : (b : Bool) → is_sound s ≡ b → (o : Option (List ℕ)) → lookup xs s.id s.number ≡ o

@@ -21,15 +21,15 @@ module _ (a : ℕ) (ys xs : List ℕ) (fits : a + length ys ≤ length xs) where
   get_or-over_below k d lt = get_or_append_left (take a xs) _ d k (let l = length-take a xs in omega arith) ∙ get_or-take a xs k d lt
 
   -- from a on
-  getD-past-a : (k d : ℕ) → a ≤ k → slice_index_or (over a ys xs) k d ≡ slice_index_or (ys ++ drop (a + length ys) xs) (k - a) d
-  getD-past-a k d le = get_or-append_right (take a xs) (ys ++ drop (a + length ys) xs) a k d (length-take-le a xs (omega arith)) le
+  get_or-past_a : (k d : ℕ) → a ≤ k → slice_index_or (over a ys xs) k d ≡ slice_index_or (ys ++ drop (a + length ys) xs) (k - a) d
+  get_or-past_a k d le = get_or-append_right (take a xs) (ys ++ drop (a + length ys) xs) a k d (length-take-le a xs (omega arith)) le
 
   pub get_or-over_at : (k d : ℕ) → a ≤ k → k < a + length ys → slice_index_or (over a ys xs) k d ≡ slice_index_or ys (k - a) d
-  get_or-over_at k d le lt = getD-past-a k d le ∙ get_or_append_left ys _ d (k - a) (omega arith)
+  get_or-over_at k d le lt = get_or-past_a k d le ∙ get_or_append_left ys _ d (k - a) (omega arith)
 
   pub get_or-over_above : (k d : ℕ) → a + length ys ≤ k → slice_index_or (over a ys xs) k d ≡ slice_index_or xs k d
   get_or-over_above k d le =
-      getD-past-a k d (omega arith) ∙ get_or-append_right ys (drop (a + length ys) xs) (length ys) (k - a) d refl (omega arith)
+      get_or-past_a k d (omega arith) ∙ get_or-append_right ys (drop (a + length ys) xs) (length ys) (k - a) d refl (omega arith)
       ∙ get_or-drop (a + length ys) xs (k - a - length ys) d ∙ ap (λ m. get_or xs m d) (let z : a + length ys + (k - a - length ys) ≡ k = omega arith in z)
 
   -- a part that the bytes do not touch

@@ -33,7 +33,7 @@ fn run(rt: &HostRuntime) -> Result<(), Failure> {
     }
 }
 
-// Runs the program, and prints why where it ends early.
+// Runs the program; the runtime prints an error that it ends with.
 fn main(rt: HostRuntime) -> Result<(), Failure> {
     run(&rt)
 }

@@ -14,7 +14,7 @@ fn run(rt: &HostRuntime) -> Result<(), Failure> {
     demo::show(rt, dump.as_slice(), tray, zone)
 }
 
-// Runs the program, and prints why where it ends early.
+// Runs the program; the runtime prints an error that it ends with.
 fn main(rt: HostRuntime) -> Result<(), Failure> {
     run(&rt)
 }
