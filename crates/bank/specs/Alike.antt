@@ -1,4 +1,4 @@
--- A sled of one rack that stands for a sled of another: what a call on the one answers, the call on the other answers. Assumes nothing.
+-- A sled of one rack that stands for a sled of another: what a call on the one answers, the call on the other answers. Only proofs, for a law: no contract cites it. Assumes nothing.
 use Rattle.std.specs.Prelude.{◌≡◌, ℕ, ◌≤◌, List, [], ◌∷◌, length, is_some, Result, refl}
 use Rattle.std.proofs.Common.{sym, ap, subst, ◌∙◌, inl}
 use Rattle.refusal.specs.declared.Fault.{Fault}

@@ -1,4 +1,4 @@
--- A rack whose sleds are under quotas. Assumes nothing.
+-- A rack whose sleds are under quotas. Only proofs, for a law: no contract cites it. Assumes nothing.
 use Rattle.std.specs.Prelude.{◌≡◌, ℕ, zero, suc, ◌-◌, ◌<◌, ◌≤◌, min, Bool, List, [], ◌∷◌, length, is_some, Result, ◌≢◌, refl}
 use Rattle.std.proofs.Common.{sym, ap, subst, ◌∙◌, inl, inr, arith}
 use Rattle.std.specs.List.{AllByRecursion}

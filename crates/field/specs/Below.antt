@@ -1,4 +1,4 @@
--- The numbers below n. Assumes nothing.
+-- The numbers below n. Only proofs, for a law: no contract cites it. Assumes nothing.
 use Rattle.std.specs.Prelude.{◌≡◌, ℕ, ◌<◌, nat_lt, refl}
 use mathlib.Core.HLevel.{Σ_prop_path}
 use Rattle.std.proofs.Common.{mod-eq_of_lt, lt→ltb, ltb→lt}

@@ -1,4 +1,4 @@
--- The laws of the field of 256 symbols: each is linear in each of its arguments, and so holds since it holds at the powers of two. Assumes nothing.
+-- The laws of the field of 256 symbols: each is linear in each of its arguments, and so holds since it holds at the powers of two. Only proofs, for a law: no contract cites it. Assumes nothing.
 use Rattle.std.specs.Prelude.{◌≡◌, ℕ, zero, suc, ◌%◌, ◌^◌, ◌<◌, Bool, T, List, [], ◌∷◌, ◌==◌, ◌≢◌, bit_xor, nat_lt, slice_index, slice_index_or, refl}
 use Rattle.std.proofs.Common.{sym, ap, ap₂, subst, ◌∙◌, arith, mod-eq_of_lt, eqb→eq, ltb→lt, lit<}
 use Rattle.std.proofs.lemmas.Nat.{xor_lt, xor_comm}

@@ -1,4 +1,4 @@
--- Polynomials over 0 and 1: what is linear, and what holds at the powers of two and is kept by exclusive or. Assumes nothing.
+-- Polynomials over 0 and 1: what is linear, and what holds at the powers of two and is kept by exclusive or. Only proofs, for a law: no contract cites it. Assumes nothing.
 use Rattle.std.specs.Prelude.{◌≡◌, ℕ, zero, suc, ◌+◌, ◌*◌, ◌/◌, ◌%◌, ◌^◌, ◌<◌, bit_xor, refl}
 use Rattle.std.proofs.Common.{sym, ap, ap₂, subst, ◌∙◌, inl, inr, arith, zero-mul, one-mul, pow-suc, lit<, pow_pos}
 use Rattle.std.specs.Int.Bits.{xor_assoc, xor_zero_r, xor_self, xor_shifted}

@@ -1,4 +1,4 @@
--- A rule at all numbers below n, by one test that antt computes. Assumes nothing.
+-- A rule at all numbers below n, by one test that antt computes. Only proofs, for a law: no contract cites it. Assumes nothing.
 use Rattle.std.specs.Prelude.{◌≡◌, ℕ, zero, suc, ◌<◌, Bool, true, false, T, ◌==◌}
 use Rattle.std.proofs.Common.{subst, sym, inl, inr, arith, not-suc-le-zero}
 use Rattle.std.proofs.Math.Dec.{eqb_refl}

@@ -1,4 +1,4 @@
--- The laws of the numbers modulo 257. Assumes nothing.
+-- The laws of the numbers modulo 257. Only proofs, for a law: no contract cites it. Assumes nothing.
 use Rattle.std.specs.Prelude.{◌≡◌, ℕ, zero, suc, ◌+◌, ◌*◌, ◌/◌, ◌%◌, ◌<◌, Bool, T, [], ◌∷◌, ◌==◌, ◌≢◌, slice_index, refl}
 use Rattle.std.proofs.Common.{sym, ap, ◌∙◌, arith, mul_comm, mul_assoc, mul-add, eqb→eq, lit<}
 use Rattle.std.proofs.Math.Nat.{mod-add-div, add-mul-mod_self_left, add-mod}

@@ -1,4 +1,4 @@
--- What the bytes of a sled mean keeps the bounds of a sled. Assumes nothing.
+-- What the bytes of a sled mean keeps the bounds of a sled. Only proofs, for a law: no contract cites it. Assumes nothing.
 use Rattle.std.specs.Prelude.{◌≡◌, ℕ, zero, suc, ◌+◌, ◌-◌, ◌*◌, ◌^◌, ◌<◌, ◌≤◌, List, [], ◌∷◌, reverse, length, drop, slice_index}
 use Rattle.std.proofs.Common.{sym, subst, ◌∙◌, arith}
 use Rattle.std.specs.List.{between, AllByRecursion}

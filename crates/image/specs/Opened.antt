@@ -1,4 +1,4 @@
--- What is known of an open image. Assumes nothing.
+-- What is known of an open image. Only proofs, for a law: no contract cites it. Assumes nothing.
 use Rattle.bank.specs.Meaning.{Sound}
 use Rattle.image.specs.declared.image.Image.{Image}
 use Rattle.image.specs.declared.layout.Layout.{Layout}
