@@ -106,4 +106,4 @@ show("5b", "pairs of parameters of four or more functions, one of them never wit
 # 6: buffers with a length beside
 show("6 ", "a slice and a number of its elements", [f.where() for f in FNS if any("[" in p for p in f.params) and any(re.match(r"(len|count|block|cells|n): usize", p) for p in f.params)])
 # 7: which step to run
-show("7 ", "matches on a case that says which step to run", grep(r"match (layout|self\.side\(|code\.field\()"))
+show("7 ", "matches on a case that says which step to run", grep(r"match (layout|self\.(plan\.)?layout|self\.side\(|code\.field\(|self\.field)") + [h for h in grep(r"match self \{") if "/layout.rt" in h])

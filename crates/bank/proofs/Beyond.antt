@@ -14,7 +14,7 @@ none_high [] id n h le = refl
 none_high (x ∷ xs) id n h le = by_cases (keyed x id n) refl (none_high xs id n h.1 le)
   where
     by_cases : (b : Bool) → keyed x id n ≡ b → lookup xs id n ≡ None → lookup (x ∷ xs) id n ≡ None
-    by_cases true e rest = absurd (let low = h.0.number_fits in let z : ⊥ = grind (arith, nat_tests) in z)
+    by_cases true e rest = absurd (let low = h.0.number_fits in grind (arith, nat_tests))
     by_cases false e rest = rw e rest
 
 pub nothing_beyond_lem : (rack : Rack) → Sound rack → EmptyBeyond rack

@@ -52,6 +52,10 @@ abbrev pub fetch_grounds : (rack : Rack) (sled id n buffer : ℕ) → List Groun
 fetch_grounds rack sled id n buffer =
     fetch_checks (length rack) sled n (length_of (held (sled_at rack sled) id n)) buffer
 
+-- what a check by these grounds answers
+abbrev pub Checks : List Ground → Result (Unit {0}) Fault → Type 0
+Checks gs r = Answers gs refusal_of r (λ _. Unit {0}) (λ _. Unit {0})
+
 -- a fetch: the payload that is held stands at the start of the buffer, which is else as it was, and size is its length
 pub record Fetched (rack : Rack) (sled id n : ℕ) (was now : List ℕ) (size : ℕ) : Type 0 where
   pub payload : List ℕ

@@ -1,11 +1,11 @@
 -- The sleds of two racks in one row. Only proofs, for a law: no contract cites it. Assumes nothing.
-use Rattle.std.specs.Prelude.{◌≡◌, ℕ, ◌+◌, ◌-◌, ◌<◌, ◌≤◌, min, Bool, true, false, cond, List, ◌++◌, length, Result, ◌≢◌, nat_lt, refl}
+use Rattle.std.specs.Prelude.{◌≡◌, ℕ, ◌+◌, ◌-◌, ◌<◌, ◌≤◌, min, Bool, true, false, cond, List, ◌++◌, length, Some, None, Option, Result, ◌≢◌, nat_lt, refl}
 use Rattle.std.proofs.Common.{sym, ap, subst, ◌∙◌, arith, ltb-true, ltb-false}
 use Rattle.std.proofs.ByRecursion.{All-take, All-append}
 use Rattle.std.proofs.lemmas.List.{length-take, length-append, get_or-take, get_or_append_left, get_or-append_right, get_or_past}
 use Rattle.refusal.specs.declared.Fault.{Fault}
 use Rattle.bank.specs.declared.join.Side.{Side}
-use Rattle.bank.specs.declared.join.Side.TheVariants.{First, Second, Nowhere}
+use Rattle.bank.specs.declared.join.Side.TheVariants.{First, Second}
 use Rattle.bank.specs.Meaning.{Rack, no_sled, sled_at, Sound, SoundSled}
 use Rattle.bank.specs.Calls.{Fetches, Puts, Blanks, OnlyAt}
 use Rattle.bank.specs.Layers.{joined}
@@ -31,19 +31,16 @@ at_first a b k le lt = get_or-take 32 (a ++ b) k no_sled (omega arith) ∙ get_o
 at_second : (a b : Rack) (k : ℕ) → length a ≤ k → k < 32 → sled_at (joined a b) k ≡ sled_at b (k - length a)
 at_second a b k le lt = get_or-take 32 (a ++ b) k no_sled lt ∙ get_or-append_right a b (length a) k no_sled refl le
 
-at_none : (a b : Rack) (k : ℕ) → length (joined a b) ≤ k → sled_at (joined a b) k ≡ no_sled
-at_none a b k le = get_or_past (joined a b) k no_sled le
-
 -- the three ways in which a sled lies
-module _ (a b : Rack) (sled : ℕ) (C : Side → Type 0) (first : sled < length a → C (First sled))
-    (second : length a ≤ sled → sled < length (joined a b) → C (Second (sled - length a))) (nowhere : length (joined a b) ≤ sled → C Nowhere) where
-  past_first : length a ≤ sled → (t : Bool) → nat_lt sled (min (length a + length b) 32) ≡ t → C (cond t (Second (sled - length a)) Nowhere)
+module _ (a b : Rack) (sled : ℕ) (C : Option Side → Type 0) (first : sled < length a → C (Some (First sled)))
+    (second : length a ≤ sled → sled < length (joined a b) → C (Some (Second (sled - length a)))) (nowhere : length (joined a b) ≤ sled → C None) where
+  past_first : length a ≤ sled → (t : Bool) → nat_lt sled (min (length a + length b) 32) ≡ t → C (cond t (Some (Second (sled - length a))) None)
   past_first ge true e = let l = length-joined a b in second ge (omega (arith, ltb-true, e))
   past_first ge false e = let l = length-joined a b in nowhere (omega (arith, ltb-false, e))
 
   pub ways : C (side_of a b sled)
   ways = by_first (nat_lt sled (length a)) refl where
-    by_first : (t : Bool) → nat_lt sled (length a) ≡ t → C (cond t (First sled) (cond (nat_lt sled (min (length a + length b) 32)) (Second (sled - length a)) Nowhere))
+    by_first : (t : Bool) → nat_lt sled (length a) ≡ t → C (cond t (Some (First sled)) (cond (nat_lt sled (min (length a + length b) 32)) (Some (Second (sled - length a))) None))
     by_first true e = first (omega (arith, ltb-true, e))
     by_first false e = past_first (omega (arith, ltb-false, e)) (nat_lt sled (min (length a + length b) 32)) refl
 
@@ -51,9 +48,9 @@ same_sled : (a b : Rack) → length a ≤ 32 → (sled : ℕ) → sled_at (joine
 same_sled a b few sled =
     let l = length-joined a b in
     ways a b sled (λ s. sled_at (joined a b) sled ≡ sled_on s a b)
-    (at_first a b sled few) (λ ge lt. at_second a b sled ge (omega arith)) (at_none a b sled)
+    (at_first a b sled few) (λ ge lt. at_second a b sled ge (omega arith)) (get_or_past (joined a b) sled no_sled)
 
-pub sled_by_side : (a b : Rack) → length a ≤ 32 → (sled : ℕ) {side : Side} → side ≡ side_of a b sled → sled_at (joined a b) sled ≡ sled_on side a b
+pub sled_by_side : (a b : Rack) → length a ≤ 32 → (sled : ℕ) {side : Option Side} → side ≡ side_of a b sled → sled_at (joined a b) sled ≡ sled_on side a b
 sled_by_side a b few sled e = same_sled a b few sled ∙ ap (λ s. sled_on s a b) (sym e)
 
 -- only one sled of the joined rack changes where no other of the two racks does

@@ -4,7 +4,7 @@ use Rattle.std.proofs.Common.{sym, ap, subst, ◌∙◌, inl, inr, arith}
 use Rattle.std.specs.List.{AllByRecursion}
 use Rattle.refusal.specs.declared.Fault.{Fault}
 use Rattle.refusal.specs.Refusals.{refusal_of}
-use Rattle.refusal.specs.Grounds.{Clear, Answers}
+use Rattle.refusal.specs.Grounds.{Clear}
 use Rattle.refusal.proofs.Grounds.{answers_weaker, answers_clear, answers_refused}
 use Rattle.bank.specs.Meaning.{Rack, Sled, no_sled, sled_at, held, Sound, SoundSled}
 use Rattle.bank.specs.Calls.{Fetches, Puts, Put, Blanks, Blanked, Added, OnlyAt, emptied, put_checks, put_grounds}
@@ -103,30 +103,29 @@ clear_more : (sleds sled n len : ℕ) (present : Bool) (room room' : ℕ) → ro
 clear_more sleds sled n len present room room' le c =
     (c.0, (c.1.0, (c.1.1.0, (c.1.1.1.0, ((λ e. c.1.1.1.1.0 (omega arith)), tt)))))
 
--- the check by the rack below is by the grounds of a put under the quotas
+-- the check under the quotas is by the grounds of a put on the rack below, at the room that the quota leaves
 checks_limited : (q : ℕ → ℕ) (rack : Rack) (sled id n len : ℕ)
-    → put_checks (length rack) sled n len (is_some (held (sled_at rack sled) id n)) (under (q sled) (sled_at rack sled)).room
-    ≡ put_grounds (limited q rack) sled id n len
+    → put_grounds (limited q rack) sled id n len
+    ≡ put_checks (length rack) sled n len (is_some (held (sled_at rack sled) id n)) (under (q sled) (sled_at rack sled)).room
 checks_limited q rack sled id n len = simp (length-limited, sled_at-limited)
 
 -- a put that the check refuses, or that is made below
 pub puts_limited : (q : ℕ → ℕ) {before after : Rack} {sled id n : ℕ} {payload : List ℕ} {r : Result (Unit {0}) Fault}
-    → PutsUnder (q sled) before after sled id n payload r → Puts (limited q before) (limited q after) sled id n payload r
+    → PutsUnder q before after sled id n payload r → Puts (limited q before) (limited q after) sled id n payload r
 puts_limited q {before} {after} {sled} {id} {n} {payload} {r} (inl h) =
     record {
       answer = answers_refused (put_grounds (limited q before) sled id n (length payload)) refusal_of r
-          (λ _. Unit {0}) (λ _. Put (limited q before) (limited q after) sled id n payload) h.1
-          (subst (λ gs. Answers gs refusal_of r (λ _. Unit {0}) (λ _. Unit {0})) (checks_limited q before sled id n (length payload)) h.0.answer)
-          (λ _ _. ap (limited q) h.2);
+          (λ _. Unit {0}) (λ _. Put (limited q before) (limited q after) sled id n payload) h.1 h.0 (λ _ _. ap (limited q) h.2);
     }
 puts_limited q {before} {after} {sled} {id} {n} {payload} {r} (inr h) =
-    let clear = h.0.answer.0 in
     let room = (under (q sled) (sled_at before sled)).room in
+    let clear : Clear (put_checks (length before) sled n (length payload) (is_some (held (sled_at before sled) id n)) room) =
+    subst Clear (checks_limited q before sled id n (length payload)) h.0 in
     record {
       answer = answers_clear (put_grounds before sled id n (length payload)) (put_grounds (limited q before) sled id n (length payload)) refusal_of r
           (λ _. Put (limited q before) (limited q after) sled id n payload) (λ _. limited q after ≡ limited q before)
           (clear_more (length before) sled n (length payload) (is_some (held (sled_at before sled) id n)) room (sled_at before sled).room (omega arith) clear)
-          (subst Clear (checks_limited q before sled id n (length payload)) clear)
+          h.0
           (answers_weaker (put_grounds before sled id n (length payload)) refusal_of r h.1.answer
           (λ _. put_limited q before after sled id n payload clear.1.1.1.1.0) (λ _. ap (limited q)));
     }

@@ -5,133 +5,138 @@ ghost use Rattle.bank.specs.Meaning.{sled_at};
 ghost use Rattle.bank.specs.Below.{side_among, side_of, sled_on, FetchesBySide, PutsBySide, BlanksBySide};
 ghost use Rattle.bank.specs.Joined.{sound_joined};
 
-use crate::Bank;
 use crate::checks::refuse;
+use crate::{Bank, Key};
 use refusal::{Fault, Reason};
+use std::marker::Model;
 
-// Where a sled lies, and the number that it has there.
+// The bank in which a sled lies, and the number that it has there.
+#[derive(Clone, Copy, Debug)]
 enum Side {
     First(usize),
     Second(usize),
-    Nowhere,
 }
 
-// The side of a sled, by the number of the first bank's sleds and that of all.
-fn side_by(first: usize, sleds: usize, sled: usize) -> Side
+// The side of a sled, if there is one, by the number of the first bank's sleds and that of all.
+fn side_by(first: usize, sleds: usize, sled: usize) -> Option<Side>
     ensures { result ≡ side_among first sleds sled }
 {
     if sled < first {
-        Side::First(sled)
+        Some(Side::First(sled))
     } else if sled < sleds {
-        Side::Second(sled - first)
+        Some(Side::Second(sled - first))
     } else {
-        Side::Nowhere
+        None
     }
 }
 
 // Two banks as one.
-#[derive(Drop)]
+#[derive(Debug, Drop)]
 pub struct Join<L, R> {
     first: L,
     second: R,
 }
 
+// It is seen as the pair of the banks.
+impl<L, R> Model for Join<L, R> {
+    ghost Value = { L × R };
+
+    ghost view = { λ j. (j.first, j.second) };
+}
+
 impl<L: Bank, R: Bank> Join<L, R> {
     // The two banks in this order.
     pub fn new(first: L, second: R) -> Self
-        ensures { result ≡ record { first = first; second = second } }
+        ensures { result ≡ (first, second) }
     {
         Join { first, second }
     }
 
     // The two banks below.
     pub fn into_banks(self) -> (L, R)
-        ensures { result ≡ (self.first, self.second) }
+        ensures { result ≡ self }
     {
-        let Join { first, second } = self;
-        (first, second)
+        (self.first, self.second)
     }
 
-    // The side on which a sled lies.
-    fn side(&self, sled: usize) -> Side
-        ensures value { result ≡ side_of (L.Bank.meaning self.now.first) (R.Bank.meaning self.now.second) sled }
-        ensures same { sled_at (joined (L.Bank.meaning self.now.first) (R.Bank.meaning self.now.second)) sled ≡ sled_on result (L.Bank.meaning self.now.first) (R.Bank.meaning self.now.second) }
+    // The side on which a sled lies, if there is one of this number.
+    fn side(&self, sled: usize) -> Option<Side>
+        ensures value { result ≡ side_of (L.meaning self.now.0) (R.meaning self.now.1) sled }
+        ensures same { sled_at (joined (L.meaning self.now.0) (R.meaning self.now.1)) sled ≡ sled_on result (L.meaning self.now.0) (R.meaning self.now.1) }
     {
         side_by(self.first.sleds(), self.sleds(), sled)
     }
 }
 
+// Each method matches on the side itself: a helper would take two closures at each call, one for each bank, and be no shorter.
 // The clauses speak of the two banks below; from them follows what the trait asks of the two as one.
 impl<L: Bank, R: Bank> Bank for Join<L, R> {
-    ghost meaning = { λ j. joined (L.Bank.meaning j.first) (R.Bank.meaning j.second) };
+    ghost meaning = { λ j. joined (L.meaning j.0) (R.meaning j.1) };
 
-    ghost sound = { λ b. sound_joined _ _ (L.Bank.sound b.first) (R.Bank.sound b.second) };
+    ghost sound = { λ b. sound_joined _ _ (L.sound b.0) (R.sound b.1) };
 
     fn sleds(&self) -> usize
-        ensures { result ≡ min (length (L.Bank.meaning self.now.first) + length (R.Bank.meaning self.now.second)) 32 }
+        ensures { result ≡ min (length (L.meaning self.now.0) + length (R.meaning self.now.1)) 32 }
     {
         (self.first.sleds() + self.second.sleds()).min(32)
     }
 
-    fn has(&self, sled: usize, id: u32, share: usize) -> bool {
+    fn has(&self, sled: usize, key: Key) -> bool {
         match self.side(sled) {
-            Side::First(k) => self.first.has(k, id, share),
-            Side::Second(k) => self.second.has(k, id, share),
-            Side::Nowhere => false,
+            Some(Side::First(k)) => self.first.has(k, key),
+            Some(Side::Second(k)) => self.second.has(k, key),
+            None => false,
         }
     }
 
     fn room(&self, sled: usize) -> usize {
         match self.side(sled) {
-            Side::First(k) => self.first.room(k),
-            Side::Second(k) => self.second.room(k),
-            Side::Nowhere => 0,
+            Some(Side::First(k)) => self.first.room(k),
+            Some(Side::Second(k)) => self.second.room(k),
+            None => 0,
         }
     }
 
     fn size(&self, sled: usize) -> usize {
         match self.side(sled) {
-            Side::First(k) => self.first.size(k),
-            Side::Second(k) => self.second.size(k),
-            Side::Nowhere => 0,
+            Some(Side::First(k)) => self.first.size(k),
+            Some(Side::Second(k)) => self.second.size(k),
+            None => 0,
         }
     }
 
     fn count(&self, sled: usize) -> usize {
         match self.side(sled) {
-            Side::First(k) => self.first.count(k),
-            Side::Second(k) => self.second.count(k),
-            Side::Nowhere => 0,
+            Some(Side::First(k)) => self.first.count(k),
+            Some(Side::Second(k)) => self.second.count(k),
+            None => 0,
         }
     }
 
-    fn fetch(&self, sled: usize, id: u32, share: usize, buffer: &mut [u8]) -> Result<usize, Fault>
-        ensures { FetchesBySide (L.Bank.meaning self.now.first) (R.Bank.meaning self.now.second) sled id share buffer.old buffer.new result }
+    fn fetch(&self, sled: usize, key: Key, buffer: &mut [u8]) -> Result<usize, Fault>
+        ensures { FetchesBySide (L.meaning self.now.0) (R.meaning self.now.1) sled key.id key.number buffer.old buffer.new result }
     {
-        match self.side(sled) {
-            Side::First(k) => self.first.fetch(k, id, share, buffer),
-            Side::Second(k) => self.second.fetch(k, id, share, buffer),
-            Side::Nowhere => Err(refuse(Reason::BadSled, sled)),
+        match self.side(sled).ok_or(refuse(Reason::BadSled, sled))? {
+            Side::First(k) => self.first.fetch(k, key, buffer),
+            Side::Second(k) => self.second.fetch(k, key, buffer),
         }
     }
 
-    fn put(&mut self, sled: usize, id: u32, share: usize, payload: &[u8]) -> Result<(), Fault>
-        ensures { PutsBySide (L.Bank.meaning self.old.first) (L.Bank.meaning self.new.first) (R.Bank.meaning self.old.second) (R.Bank.meaning self.new.second) sled id share payload.now result }
+    fn put(&mut self, sled: usize, key: Key, payload: &[u8]) -> Result<(), Fault>
+        ensures { PutsBySide (L.meaning self.old.0) (L.meaning self.new.0) (R.meaning self.old.1) (R.meaning self.new.1) sled key.id key.number payload.now result }
     {
-        match self.side(sled) {
-            Side::First(k) => self.first.put(k, id, share, payload),
-            Side::Second(k) => self.second.put(k, id, share, payload),
-            Side::Nowhere => Err(refuse(Reason::BadSled, sled)),
+        match self.side(sled).ok_or(refuse(Reason::BadSled, sled))? {
+            Side::First(k) => self.first.put(k, key, payload),
+            Side::Second(k) => self.second.put(k, key, payload),
         }
     }
 
     fn blank(&mut self, sled: usize) -> Result<(), Fault>
-        ensures { BlanksBySide (L.Bank.meaning self.old.first) (L.Bank.meaning self.new.first) (R.Bank.meaning self.old.second) (R.Bank.meaning self.new.second) sled result }
+        ensures { BlanksBySide (L.meaning self.old.0) (L.meaning self.new.0) (R.meaning self.old.1) (R.meaning self.new.1) sled result }
     {
-        match self.side(sled) {
+        match self.side(sled).ok_or(refuse(Reason::BadSled, sled))? {
             Side::First(k) => self.first.blank(k),
             Side::Second(k) => self.second.blank(k),
-            Side::Nowhere => Err(refuse(Reason::BadSled, sled)),
         }
     }
 }

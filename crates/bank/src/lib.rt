@@ -2,15 +2,18 @@
 #![tactic(auto)]
 
 ghost use Rattle.std.specs.Prelude.{◌≡◌, length, is_some};
-ghost use Rattle.bank.specs.Calls.{Fetches, Puts, Blanks};
+ghost use Rattle.bank.specs.Calls.{put_grounds, Checks, Fetches, Puts, Blanks};
 ghost use Rattle.bank.specs.Meaning.{Rack, Sound, sled_at, held, count};
 
 use refusal::Fault;
 
 pub mod checks;
 pub mod join;
+pub mod key;
 pub mod quota;
 pub mod theorems;
+
+pub use key::Key;
 
 // A bank: a rack of 1 to 32 sleds. Every call takes any numbers and any buffers. A question about a sled that there is not, or about a
 // share from 32 on, is answered by no or 0. Neither the number of sleds nor a sled's size ever changes.
@@ -22,9 +25,9 @@ pub trait Bank {
     fn sleds(&self) -> usize
         ensures { result ≡ length (meaning self.now) };
 
-    // Whether the sled holds this share of the file.
-    fn has(&self, sled: usize, id: u32, share: usize) -> bool
-        ensures { result ≡ is_some (held (sled_at (meaning self.now) sled) id share) };
+    // Whether the sled holds the share of this key.
+    fn has(&self, sled: usize, key: Key) -> bool
+        ensures { result ≡ is_some (held (sled_at (meaning self.now) sled) key.id key.number) };
 
     // How many more shares the sled takes.
     fn room(&self, sled: usize) -> usize
@@ -39,12 +42,26 @@ pub trait Bank {
         ensures { result ≡ count (sled_at (meaning self.now) sled) };
 
     // Copies the payload of a share to the start of the buffer, and tells its length.
-    fn fetch(&self, sled: usize, id: u32, share: usize, buffer: &mut [u8]) -> Result<usize, Fault>
-        ensures { Fetches (meaning self.now) sled id share buffer.old buffer.new result };
+    fn fetch(&self, sled: usize, key: Key, buffer: &mut [u8]) -> Result<usize, Fault>
+        ensures { Fetches (meaning self.now) sled key.id key.number buffer.old buffer.new result };
 
     // Adds one share.
-    fn put(&mut self, sled: usize, id: u32, share: usize, payload: &[u8]) -> Result<(), Fault>
-        ensures { Puts (meaning self.old) (meaning self.new) sled id share payload.now result };
+    fn put(&mut self, sled: usize, key: Key, payload: &[u8]) -> Result<(), Fault>
+        ensures { Puts (meaning self.old) (meaning self.new) sled key.id key.number payload.now result };
+
+    // Whether a share of this length can be put on the sled.
+    fn check_put(&self, sled: usize, key: Key, len: usize) -> Result<(), Fault>
+        ensures { Checks (put_grounds (meaning self.now) sled key.id key.number len) result }
+    {
+        checks::check_put(
+            self.sleds(),
+            sled,
+            key.number,
+            len,
+            self.has(sled, key),
+            self.room(sled),
+        )
+    }
 
     // Empties one sled.
     fn blank(&mut self, sled: usize) -> Result<(), Fault>

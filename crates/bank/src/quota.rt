@@ -1,17 +1,17 @@
 // A quota on the shares of each sled of the bank below.
 ghost use Rattle.std.specs.Prelude.{◌≡◌, length, is_some};
 ghost use Rattle.bank.specs.Calls.{Fetches, Blanks};
-ghost use Rattle.bank.specs.Layers.{quota_of, under, limited};
-ghost use Rattle.bank.specs.Below.{ChecksUnder, PutsUnder};
+ghost use Rattle.bank.specs.Layers.{quota_of, under, limited, UnderQuotas};
+ghost use Rattle.bank.specs.Below.{PutsUnder};
 ghost use Rattle.bank.specs.Meaning.{sled_at, held, count};
 ghost use Rattle.bank.specs.Limited.{sound_limited};
 
-use crate::Bank;
-use crate::checks::check_put;
+use crate::{Bank, Key};
 use refusal::Fault;
+use std::marker::Model;
 
 // The quota of each sled: how many shares it may hold, 0 for one that is only read.
-#[derive(Clone, Copy)]
+#[derive(Clone, Copy, Debug)]
 pub struct Limits {
     numbers: [usize; 32],
 }
@@ -21,29 +21,32 @@ impl Limits {
     fn quota(&self, sled: usize) -> usize
         ensures { result ≡ quota_of self.now.numbers sled }
     {
-        if sled < 32 {
-            self.numbers[sled].min(4096)
-        } else {
-            0
-        }
+        self.numbers.get(sled).map_or(0, |&number| number.min(4096))
     }
 }
 
 // A bank whose sleds take no more shares than their quotas; a sled that holds more keeps them.
-#[derive(Drop)]
+#[derive(Debug, Drop)]
 pub struct Quota<B> {
     bank: B,
     limits: Limits,
 }
 
+// It is seen as the bank below and the quotas.
+impl<B> Model for Quota<B> {
+    ghost Value = { UnderQuotas B };
+
+    ghost view = { λ q. record { bank = q.bank; quotas = q.limits.numbers } };
+}
+
 impl<B: Bank> Quota<B> {
     // The bank under these quotas, one for each sled.
-    pub fn new(bank: B, numbers: [usize; 32]) -> Self
-        ensures { result ≡ record { bank = bank; limits = record { numbers = numbers } } }
+    pub fn new(bank: B, quotas: [usize; 32]) -> Self
+        ensures { result ≡ record { bank = bank; quotas = quotas } }
     {
         Quota {
             bank,
-            limits: Limits { numbers },
+            limits: Limits { numbers: quotas },
         }
     }
 
@@ -51,39 +54,30 @@ impl<B: Bank> Quota<B> {
     pub fn into_bank(self) -> B
         ensures { result ≡ self.bank }
     {
-        let Quota { bank, limits: _ } = self;
-        bank
-    }
-
-    // Whether a share can be put, by what the bank below holds and the room that the quota leaves.
-    fn check(&self, sled: usize, id: u32, share: usize, len: usize) -> Result<(), Fault>
-        ensures { ChecksUnder (quota_of self.now.limits.numbers sled) (B.Bank.meaning self.now.bank) sled id share len result }
-    {
-        let present = self.has(sled, id, share);
-        check_put(self.sleds(), sled, share, len, present, self.room(sled))
+        self.bank
     }
 }
 
 // The clauses speak of the bank below; from them follows what the trait asks of the bank under its quotas.
 impl<B: Bank> Bank for Quota<B> {
-    ghost meaning = { λ q. limited (quota_of q.limits.numbers) (B.Bank.meaning q.bank) };
+    ghost meaning = { λ q. limited (quota_of q.quotas) (B.meaning q.bank) };
 
-    ghost sound = { λ b. sound_limited _ _ (B.Bank.sound b.bank) };
+    ghost sound = { λ b. sound_limited _ _ (B.sound b.bank) };
 
     fn sleds(&self) -> usize
-        ensures { result ≡ length (B.Bank.meaning self.now.bank) }
+        ensures { result ≡ length (B.meaning self.now.bank) }
     {
         self.bank.sleds()
     }
 
-    fn has(&self, sled: usize, id: u32, share: usize) -> bool
-        ensures { result ≡ is_some (held (sled_at (B.Bank.meaning self.now.bank) sled) id share) }
+    fn has(&self, sled: usize, key: Key) -> bool
+        ensures { result ≡ is_some (held (sled_at (B.meaning self.now.bank) sled) key.id key.number) }
     {
-        self.bank.has(sled, id, share)
+        self.bank.has(sled, key)
     }
 
     fn room(&self, sled: usize) -> usize
-        ensures { result ≡ (under (quota_of self.now.limits.numbers sled) (sled_at (B.Bank.meaning self.now.bank) sled)).room }
+        ensures { result ≡ (under (quota_of self.now.quotas sled) (sled_at (B.meaning self.now.bank) sled)).room }
     {
         let left = self
             .limits
@@ -93,34 +87,34 @@ impl<B: Bank> Bank for Quota<B> {
     }
 
     fn size(&self, sled: usize) -> usize
-        ensures { result ≡ (under (quota_of self.now.limits.numbers sled) (sled_at (B.Bank.meaning self.now.bank) sled)).size }
+        ensures { result ≡ (under (quota_of self.now.quotas sled) (sled_at (B.meaning self.now.bank) sled)).size }
     {
         self.limits.quota(sled).min(self.bank.size(sled))
     }
 
     fn count(&self, sled: usize) -> usize
-        ensures { result ≡ count (sled_at (B.Bank.meaning self.now.bank) sled) }
+        ensures { result ≡ count (sled_at (B.meaning self.now.bank) sled) }
     {
         self.bank.count(sled)
     }
 
-    fn fetch(&self, sled: usize, id: u32, share: usize, buffer: &mut [u8]) -> Result<usize, Fault>
-        ensures { Fetches (B.Bank.meaning self.now.bank) sled id share buffer.old buffer.new result }
+    fn fetch(&self, sled: usize, key: Key, buffer: &mut [u8]) -> Result<usize, Fault>
+        ensures { Fetches (B.meaning self.now.bank) sled key.id key.number buffer.old buffer.new result }
     {
-        self.bank.fetch(sled, id, share, buffer)
+        self.bank.fetch(sled, key, buffer)
     }
 
-    fn put(&mut self, sled: usize, id: u32, share: usize, payload: &[u8]) -> Result<(), Fault>
-        ensures below { PutsUnder (quota_of self.old.limits.numbers sled) (B.Bank.meaning self.old.bank) (B.Bank.meaning self.new.bank) sled id share payload.now result }
-        ensures limits { self.new.limits ≡ self.old.limits }
+    fn put(&mut self, sled: usize, key: Key, payload: &[u8]) -> Result<(), Fault>
+        ensures below { PutsUnder (quota_of self.old.quotas) (B.meaning self.old.bank) (B.meaning self.new.bank) sled key.id key.number payload.now result }
+        ensures quotas { self.new.quotas ≡ self.old.quotas }
     {
-        self.check(sled, id, share, payload.len())?;
-        self.bank.put(sled, id, share, payload)
+        self.check_put(sled, key, payload.len())?;
+        self.bank.put(sled, key, payload)
     }
 
     fn blank(&mut self, sled: usize) -> Result<(), Fault>
-        ensures below { Blanks (B.Bank.meaning self.old.bank) (B.Bank.meaning self.new.bank) sled result }
-        ensures limits { self.new.limits ≡ self.old.limits }
+        ensures below { Blanks (B.meaning self.old.bank) (B.meaning self.new.bank) sled result }
+        ensures quotas { self.new.quotas ≡ self.old.quotas }
     {
         self.bank.blank(sled)
     }

@@ -2,8 +2,6 @@
 ghost use Rattle.bank.specs.Theorems.{NothingBeyond};
 
 // Past the bounds of a rack there is nothing.
-pub fn nothing_beyond() -> u8
+pub fn nothing_beyond()
     ensures { NothingBeyond }
-{
-    0
-}
+{}

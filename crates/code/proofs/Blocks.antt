@@ -1,19 +1,21 @@
 -- The length of a block, and of what is stored. Assumes nothing.
-use Rattle.std.proofs.Common.{◌≡◌, ℕ, suc, ◌+◌, ◌-◌, ◌*◌, ◌/◌, ◌<◌, ◌≤◌, List, [], ◌++◌, length, take, drop, sym, refl, ap, ◌∙◌, ap₂, inl, inr, append_assoc, le_refl, mod-lt, mul-zero, zero-mul, add-one, arith, length-append}
-use native.Mathlib.Nat.{add-div_right, div-add-mod}
+use Rattle.std.proofs.Common.{take_all, append-nil, length-drop, ◌≡◌, ℕ, suc, ◌+◌, ◌-◌, ◌*◌, ◌<◌, ◌≤◌, List, [], ◌++◌, length, take, drop, sym, refl, ap, ◌∙◌, ap₂, inl, inr, append_assoc, le_refl, mod-lt, mul-zero, zero-mul, add-one, arith, length-append}
+use native.Mathlib.Nat.{div-add-mod, div-eq_of_lt-le}
+use Rattle.std.proofs.lemmas.Grind.{div_ceil_times}
 use Rattle.std.proofs.lemmas.Nat.{mul-le}
-use Rattle.std.proofs.lemmas.List.{drop-drop, take_at, drop_at, nil_from_length}
+use Rattle.std.specs.Int.{div_ceil}
+use Rattle.std.proofs.lemmas.List.{drop_all, drop-drop, take_at, drop_at, nil_from_length}
 use Rattle.std.proofs.lemmas.Bool.{cases_lt}
 use borrow.Rule.Slice.PartMut.{put_mid}
 use Rattle.field.specs.Model.{Ops, Laws}
 use Rattle.code.specs.Shares.{block_length, Sized, serial}
 
--- L divided by k, rounded up, as the code reckons it
-pub rounded : (L k : ℕ) → 1 ≤ L → 1 ≤ k → (L - 1) / k + 1 ≡ block_length L k
+-- L divided by k, rounded up, as the library reckons it
+pub rounded : (L k : ℕ) → 1 ≤ k → div_ceil L k ≡ block_length L k
 unfolding block_length
-rounded L k hL hk =
-    let e : L + (k - 1) ≡ (L - 1) + k = omega arith in
-    sym (ap (λ (m : ℕ). m / k) e ∙ add-div_right (L - 1) hk)
+rounded L k h =
+    let t = div_ceil_times L k h in
+    sym (div-eq_of_lt-le {k = div_ceil L k} k {m = L + (k - 1)} (omega (arith, t.0, t.1)) (omega (arith, t.0, t.1)))
 
 -- the blocks cover the file
 pub covered : (L k : ℕ) → 1 ≤ k → L ≤ k * block_length L k
@@ -73,15 +75,20 @@ module _ {E : Type 0} (F : Ops E) (L : Laws F) where
   unfolding serial
   serial-step f i = ap (serial F f) (add-one i)
 
-  -- one symbol more
-  pub serial_more : (f : ℕ → E) (i a k : ℕ) (out was ys : List ℕ) → out ≡ serial F f i ++ drop (i * F.width) was → a ≡ i * F.width → k ≡ F.width → ys ≡ F.stored (f i)
-      → put_mid a k out ys ≡ serial F f (i + 1) ++ drop ((i + 1) * F.width) was
-  serial_more f i a k out was ys e ea ek ey =
+  -- one symbol more, written to the start of what is left
+  pub serial_more : (f : ℕ → E) (i a : ℕ) (out was ys : List ℕ) → out ≡ serial F f i ++ drop (i * F.width) was → a ≡ i * F.width
+      → ys ≡ F.stored (f i) ++ drop F.width (take (length out - a) (drop a out))
+      → put_mid a (length out - a) out ys ≡ serial F f (i + 1) ++ drop ((i + 1) * F.width) was
+  serial_more f i a out was ys e ea ey =
+      let k : ℕ = length out - a in
       let before = serial F f i in
       let rest = drop (i * F.width) was in
       let la : length before ≡ a = serial-length f i ∙ sym ea in
       let front : take a out ≡ before = ap (take a) e ∙ take_at before rest a la in
       let back : drop a out ≡ rest = ap (drop a) e ∙ drop_at before rest a la in
-      let past : drop k (drop a out) ≡ drop ((i + 1) * F.width) was =
-      ap₂ drop ek back ∙ drop-drop F.width (i * F.width) was ∙ ap (λ (n : ℕ). drop n was) (omega arith) in
-      ap₂ ◌++◌ front (ap₂ ◌++◌ ey past) ∙ sym (append_assoc before (F.stored (f i)) (drop ((i + 1) * F.width) was)) ∙ ap (λ (l : List ℕ). l ++ drop ((i + 1) * F.width) was) (sym (serial-step f i))
+      let whole : take k (drop a out) ≡ drop a out = take_all k (drop a out) (omega (arith, length-drop a out)) in
+      let none : drop k (drop a out) ≡ [] = drop_all k (drop a out) (omega (arith, length-drop a out)) in
+      let past : drop F.width (take k (drop a out)) ≡ drop ((i + 1) * F.width) was =
+      ap (drop F.width) (whole ∙ back) ∙ drop-drop F.width (i * F.width) was ∙ ap (λ (n : ℕ). drop n was) (omega arith) in
+      ap₂ ◌++◌ front (ap₂ ◌++◌ (ey ∙ ap (λ (l : List ℕ). F.stored (f i) ++ l) past) none ∙ append-nil (F.stored (f i) ++ drop ((i + 1) * F.width) was))
+      ∙ sym (append_assoc before (F.stored (f i)) (drop ((i + 1) * F.width) was)) ∙ ap (λ (l : List ℕ). l ++ drop ((i + 1) * F.width) was) (sym (serial-step f i))

@@ -1,12 +1,13 @@
--- Operations on symbols of the machine, by what the symbols stand for. Assumes nothing.
-use Rattle.std.proofs.Common.{◌≡◌, ap, ◌∙◌, ap₂}
+-- What symbols of the machine stand for. Assumes nothing.
+use Rattle.std.proofs.Common.{◌≡◌, ℕ, ◌<◌, replicate, ap, ◌∙◌}
+use Rattle.std.proofs.lemmas.List.{get_or-replicate}
+use Rattle.field.specs.declared.Field.{Ghosts}
+use Rattle.code.specs.Lagrange.{entry}
 
-module _ {S E : Type 0} (elem : S → E) (code : E → S) (back : (e : E) → elem (code e) ≡ e) where
-  pub known : {x : S} {a : E} → x ≡ code a → elem x ≡ a
-  known {x} {a} h = ap elem h ∙ back a
+module _ {A S : Type 0} (f : Ghosts A S) (back : (e : f.elements) → f.elem (f.sym e) ≡ e) where
+  pub known : {x : S} {a : f.elements} → x ≡ f.sym a → f.elem x ≡ a
+  known {x} {a} h = ap f.elem h ∙ back a
 
-  pub unary : (op : E → E) {r x : S} {a : E} → r ≡ code (op (elem x)) → x ≡ code a → r ≡ code (op a)
-  unary op h p = h ∙ ap (λ z. code (op z)) (known p)
-
-  pub binary : (op : E → E → E) {r x y : S} {a b : E} → r ≡ code (op (elem x) (elem y)) → x ≡ code a → y ≡ code b → r ≡ code (op a b)
-  binary op h p q = h ∙ ap₂ (λ z w. code (op z w)) (known p) (known q)
+  -- every place of an array that is filled with one symbol
+  pub filled : (n i : ℕ) (x : S) (a : f.elements) → x ≡ f.sym a → i < n → entry f (replicate n x) i ≡ a
+  filled n i x a e h = ap f.elem (get_or-replicate n i x (f.sym f.model.zero) h) ∙ known e

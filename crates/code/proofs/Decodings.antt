@@ -1,20 +1,22 @@
 -- What decode reads and reckons, in the words of the definitions. Assumes nothing.
-use Rattle.std.proofs.Common.{◌≡◌, ℕ, ◌+◌, ◌*◌, ◌/◌, ◌%◌, ◌<◌, ◌≤◌, ◌⊎◌, List, length, get_or, take, drop, sym, refl, ap, ◌∙◌, subst, inl, inr, mod-lt, div-add-mod', arith, lit<}
+use Rattle.std.proofs.Common.{◌≡◌, ℕ, ◌+◌, ◌*◌, ◌/◌, ◌%◌, ◌<◌, ◌≤◌, ◌⊎◌, List, length, get_or, take, drop, Ok, Err, Result, sym, refl, ap, ◌∙◌, subst, inl, inr, mod-lt, div-add-mod', arith, lit<}
 use Rattle.std.proofs.lemmas.List.{get_or-take, get_or_past, get_or_default, length-take-le, same_lists}
 use Rattle.std.proofs.lemmas.Bool.{cases_lt}
 use Rattle.field.specs.Model.{Ops, Laws}
 use Rattle.code.specs.Polynomials.{eval, Through}
-use Rattle.code.specs.Lagrange.{entry, interpolated}
+use Rattle.code.specs.Lagrange.{interpolated}
 use Rattle.code.specs.Shares.{block_length}
-use Rattle.refusal.specs.Grounds.{Told, Clear}
+use Rattle.refusal.specs.Grounds.{Told}
 use Rattle.code.specs.Decoding.{symbol_bytes, Fits, Right, Decodes, Outside, NoByte, Lengths, Different}
-use Rattle.code.specs.Calls.{by_code, decode_grounds}
+use Rattle.code.specs.Codes.{Numbers}
+use Rattle.code.specs.Calls.{BadSymbolIsTold, decode_grounds, Decoded, Recovers}
+use Rattle.refusal.specs.declared.Fault.{Fault}
+use Rattle.std.specs.Result.{IsErrAnd}
 use Rattle.code.proofs.Roots.{Apart, only_one}
 use Rattle.code.proofs.Basis.{exists}
 use Rattle.code.proofs.Totals.{interpolated_same}
 use Rattle.code.proofs.Rows.{row_ends}
 use Rattle.code.proofs.Blocks.{block_below, block_some, covered}
-use Rattle.code.proofs.Coded as coded
 
 module _ {E : Type 0} (F : Ops E) (L : Laws F) where
   -- different share numbers have different points
@@ -67,30 +69,29 @@ module _ {E : Type 0} (F : Ops E) (L : Laws F) where
         let r = d.right o.b o.i o.place o.within in
         o.none (get_or file (o.b * B + o.i) 0) (d.bytes (o.b * B + o.i)) (r.value ∙ same-value o.b o.i r.p o.p r.fits o.fits)
 
-  module _ {S : Type 0} (elem : S → E) (code : E → S) (back : (e : E) → elem (code e) ≡ e) (z : S)
-      (n k B : ℕ) (shares payloads : List ℕ) (points rows : List S)
-      (small : n ≤ 32) (count : length shares ≡ k) (different : Different n shares) (size : length points ≡ k)
-      (at : (i : ℕ) → i < k → get_or points i z ≡ code (F.point (get_or shares i 0)))
-      (read : (t : ℕ) → t < k * B → F.stored (elem (get_or rows t z)) ≡ take F.width (drop (t * F.width) payloads)) where
+  -- the points and the symbols that decode has, by what they stand for
+  module _ (n k p B : ℕ) (shares payloads : List ℕ) (x row : ℕ → E)
+      (small : n ≤ 32) (count : length shares ≡ k) (different : Different n shares) (size : p ≡ k)
+      (at : (i : ℕ) → i < k → x i ≡ F.point (get_or shares i 0))
+      (read : (t : ℕ) → t < k * B → F.stored (row t) ≡ take F.width (drop (t * F.width) payloads)) where
     -- the value that decode reckons for place i of block b
     unfoldable pub reckoned : ℕ → ℕ → E
-    reckoned b i = interpolated F (entry elem z points) (λ m. entry elem z rows (m * B + i)) (length points) (F.point b)
+    reckoned b i = interpolated F x (λ m. row (m * B + i)) p (F.point b)
 
     -- it is the value of the polynomial that fits the shares
-    fit : (i : ℕ) → i < B → (p : List E) × Fits F k B shares payloads i p × ((b : ℕ) → eval F p (F.point b) ≡ reckoned b i)
+    fit : (i : ℕ) → i < B → (q : List E) × Fits F k B shares payloads i q × ((b : ℕ) → eval F q (F.point b) ≡ reckoned b i)
     unfolding reckoned symbol_bytes
     fit i h =
-        let x = λ (m : ℕ). F.point (get_or shares m 0) in
-        let v = λ (m : ℕ). entry elem z rows (m * B + i) in
-        let p = exists F L x v k (shares_apart n k shares small count different) in (
-          p.0,
+        let y = λ (m : ℕ). F.point (get_or shares m 0) in
+        let v = λ (m : ℕ). row (m * B + i) in
+        let q = exists F L y v k (shares_apart n k shares small count different) in (
+          q.0,
           record {
-            degree = p.1.degree;
-            values = λ m hm. ap F.stored (p.1.values m hm) ∙ read (m * B + i) (omega (arith, row_ends m k B (k * B) hm (omega arith)));
+            degree = q.1.degree;
+            values = λ m hm. ap F.stored (q.1.values m hm) ∙ read (m * B + i) (omega (arith, row_ends m k B (k * B) hm (omega arith)));
           },
-          λ b. p.2 (F.point b)
-              ∙ sym (ap (λ (j : ℕ). interpolated F (entry elem z points) v j (F.point b)) size
-              ∙ interpolated_same F (entry elem z points) x v v k (F.point b) (λ m hm. coded.known elem code back (at m hm)) (λ m hm. refl)),
+          λ b. q.2 (F.point b)
+              ∙ sym (ap (λ (j : ℕ). interpolated F x v j (F.point b)) size ∙ interpolated_same F x y v v k (F.point b) at (λ m hm. refl)),
         )
 
     right : (b i y : ℕ) → i < B → F.byte y ≡ reckoned b i → Right F k B shares payloads b i y
@@ -105,7 +106,7 @@ module _ {E : Type 0} (F : Ops E) (L : Laws F) where
     pub inside : Outside F k B payloads → ⊥
     unfolding symbol_bytes
     inside o =
-        o.none (elem (get_or rows (o.m * B + o.i) z))
+        o.none (row (o.m * B + o.i))
         (read (o.m * B + o.i) (let s = o.share in let l = o.place in omega (arith, row_ends o.m k B (k * B) s (omega arith))))
 
     -- the bytes that were found are the file
@@ -139,22 +140,26 @@ outside_at F k B t payloads h some none =
       none = λ s stored. none s (stored ∙ ap (λ (u : ℕ). take F.width (drop (u * F.width) payloads)) e);
     }
 
-module _ {E : Type 0} (F : Ops E) (k n L B : ℕ) (shares payloads : List ℕ) (room : ℕ) (eB : B ≡ block_length L k)
-    (lengths : Lengths L k F.width shares payloads) (different : Different n shares) (fits : L ≤ room) where
+module _ {E : Type 0} (F : Ops E) (c : Numbers) (L B : ℕ) (shares payloads was : List ℕ) (eB : B ≡ block_length L c.k)
+    (lengths : Lengths L c.k F.width shares payloads) (different : Different c.n shares) (fits : L ≤ length was) where
   -- with nothing else amiss a bad symbol is what is told
-  pub told_bad : Outside F k B payloads ⊎ NoByte F k B L shares payloads → Told (decode_grounds F k n L shares payloads room) (by_code 14)
-  told_bad bad =
-      inr (
-        (λ not. not lengths),
-        inr (
-          (λ not. not different),
-          inr ((λ short. absurd (omega arith)), inl (subst (λ (B' : ℕ). Outside F k B' payloads ⊎ NoByte F k B' L shares payloads) eB bad, refl)),
-        ),
-      )
+  pub told_bad : (r : Result (Unit {0}) Fault) → IsErrAnd r BadSymbolIsTold → Outside F c.k B payloads ⊎ NoByte F c.k B L shares payloads → Recovers F c L shares payloads was was r
+  told_bad (Ok x) h bad = absurd h
+  told_bad (Err f) h bad =
+      let bad' = subst (λ (B' : ℕ). Outside F c.k B' payloads ⊎ NoByte F c.k B' L shares payloads) eB bad in
+      record {
+        answer = (
+          subst (Told (decode_grounds F c.k c.n L shares payloads (length was))) (sym h)
+              (inr ((λ not. not lengths), inr ((λ not. not different), inr ((λ short. absurd (omega arith)), inl (bad', refl))))),
+          refl,
+        );
+      }
 
-  -- with no bad symbol there is nothing to tell
-  pub all_clear : (Outside F k B payloads ⊎ NoByte F k B L shares payloads → ⊥) → Clear (decode_grounds F k n L shares payloads room)
-  all_clear good = (
-    (λ not. not lengths),
-    ((λ not. not different), ((λ short. absurd (omega arith)), (subst (λ (B' : ℕ). Outside F k B' payloads ⊎ NoByte F k B' L shares payloads → ⊥) eB good, tt))),
-  )
+  -- and with no bad symbol there is nothing to tell
+  pub all_clear : (now : List ℕ) (r : Unit {0}) → (Outside F c.k B payloads ⊎ NoByte F c.k B L shares payloads → ⊥) → Decoded F c.k L shares payloads was now → Recovers F c L shares payloads was now (Ok r)
+  all_clear now r good decoded = record {
+    answer = (
+      ((λ not. not lengths), ((λ not. not different), ((λ short. absurd (omega arith)), (subst (λ (B' : ℕ). Outside F c.k B' payloads ⊎ NoByte F c.k B' L shares payloads → ⊥) eB good, tt)))),
+      decoded,
+    );
+  }

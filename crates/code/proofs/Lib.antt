@@ -12,3 +12,4 @@ pub mod Payloads
 pub mod Decodings
 pub mod RoundTrip
 pub mod ByHand
+pub mod Chosen

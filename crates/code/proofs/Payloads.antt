@@ -1,14 +1,13 @@
 -- A share has exactly one payload, and encode's sums are its symbols. Assumes nothing.
 use Rattle.std.proofs.Common.{◌≡◌, ℕ, suc, ◌+◌, ◌*◌, ◌<◌, ◌≤◌, List, ◌++◌, length, get_or, sym, refl, ap, ◌∙◌, ap₂, arith}
 use Rattle.field.specs.Model.{Ops, Laws}
-use Rattle.code.specs.Lagrange.{entry, interpolated}
+use Rattle.code.specs.Lagrange.{interpolated}
 use Rattle.code.specs.Shares.{block_length, block_byte, serial, Payload}
 use Rattle.code.specs.Theorems.{OnePayload}
 use Rattle.code.proofs.Roots.{Apart}
 use Rattle.code.proofs.Basis.{exists, value_is}
 use Rattle.code.proofs.Totals.{interpolated_same}
 use Rattle.code.proofs.Rows.{row_ends}
-use Rattle.code.proofs.Coded as coded
 
 serial_same : {E : Type 0} (F : Ops E) (f g : ℕ → E) (n : ℕ) → ((i : ℕ) → i < n → f i ≡ g i) → serial F f n ≡ serial F g n
 unfolding serial
@@ -56,25 +55,21 @@ module _ {E : Type 0} (F : Ops E) (L : Laws F) where
       let p = payload_from k j file (share_value F k file j) few (λ i h. refl) in
       (serial F (share_value F k file j) (block_length (length file) k), p, λ other q. same_payload k j file other (serial F (share_value F k file j) (block_length (length file) k)) few q p)
 
-  module _ {S : Type 0} (elem : S → E) (code : E → S) (back : (e : E) → elem (code e) ≡ e) (z : S) where
-    -- the sums over the points 0 to k - 1 and the symbols of the file are the values at point j
-    pub sums_payload : (k block j : ℕ) (file : List ℕ) (points rows sums : List S) (y : S) → k ≤ 32 → block ≡ block_length (length file) k → length points ≡ k
-        → ((i : ℕ) → i < k → get_or points i z ≡ code (F.point i))
-        → ((t : ℕ) → t < k * block → get_or rows t z ≡ code (F.byte (get_or file t 0)))
-        → y ≡ code (F.point j)
-        → ((i : ℕ) → i < block → get_or sums i z ≡ code (interpolated F (entry elem z points) (λ m. entry elem z rows (m * block + i)) (length points) (elem y)))
-        → Payload F k file j (serial F (entry elem z sums) block)
-    unfolding share_value
-    sums_payload k block j file points rows sums y few eB size at loaded ey summed =
-        rw eB (payload_from k j file (entry elem z sums) few values)
-      where
-        values : (i : ℕ) → i < block_length (length file) k → elem (get_or sums i z) ≡ share_value F k file j i
-        values i h =
-            let hB : i < block = rw eB h in
-            let x = entry elem z points in
-            let v = λ (m : ℕ). entry elem z rows (m * block + i) in
-            coded.known elem code back (summed i hB)
-            ∙ ap₂ (interpolated F x v) size (coded.known elem code back ey)
-            ∙ interpolated_same F x F.point v (λ b. F.byte (block_byte file k b i)) k (F.point j)
-            (λ b hb. coded.known elem code back (at b hb))
-            (λ b hb. coded.known elem code back (loaded (b * block + i) (omega (arith, row_ends b k block (k * block) hb (omega arith)))) ∙ ap (λ (n : ℕ). F.byte (get_or file (b * n + i) 0)) eB)
+  -- the sums over the points 0 to k - 1 and the symbols of the file are the values at point j
+  pub sums_payload : (k p block j : ℕ) (file : List ℕ) (x row sum : ℕ → E) → k ≤ 32 → block ≡ block_length (length file) k → p ≡ k
+      → ((i : ℕ) → i < k → x i ≡ F.point i)
+      → ((t : ℕ) → t < k * block → row t ≡ F.byte (get_or file t 0))
+      → ((i : ℕ) → i < block → sum i ≡ interpolated F x (λ m. row (m * block + i)) p (F.point j))
+      → Payload F k file j (serial F sum block)
+  unfolding share_value
+  sums_payload k p block j file x row sum few eB size at loaded summed =
+      rw eB (payload_from k j file sum few values)
+    where
+      values : (i : ℕ) → i < block_length (length file) k → sum i ≡ share_value F k file j i
+      values i h =
+          let hB : i < block = rw eB h in
+          let v = λ (m : ℕ). row (m * block + i) in
+          summed i hB
+          ∙ ap (λ (q : ℕ). interpolated F x v q (F.point j)) size
+          ∙ interpolated_same F x F.point v (λ b. F.byte (block_byte file k b i)) k (F.point j) at
+          (λ b hb. loaded (b * block + i) (omega (arith, row_ends b k block (k * block) hb (omega arith))) ∙ ap (λ (n : ℕ). F.byte (get_or file (b * n + i) 0)) eB)

@@ -1,7 +1,7 @@
 -- Rows of one length, one after another. Assumes nothing.
-use Rattle.std.proofs.Common.{◌≡◌, ℕ, suc, ◌+◌, ◌-◌, ◌*◌, ◌<◌, ◌≤◌, Bool, true, false, List, ◌++◌, length, get_or, take, drop, MatchBool, ap, ◌∙◌, ap₂, append-nil, le_refl, arith}
+use Rattle.std.proofs.Common.{◌≡◌, ℕ, suc, ◌+◌, ◌-◌, ◌*◌, ◌<◌, ◌≤◌, List, length, get_or, take, drop, MatchResult, IsOk, IsErr, Ok, Err, Result, refl, ◌∙◌, le_refl, arith}
 use Rattle.std.proofs.lemmas.Nat.{mul-le}
-use Rattle.std.proofs.lemmas.List.{get_or-take, get_or-drop, length-take-le, length-drop, drop_all}
+use Rattle.std.proofs.lemmas.List.{get_or-take, get_or-drop, length-take-le, length-drop}
 
 -- row m of k rows of length w ends within them
 pub row_ends : (m k w n : ℕ) → m < k → k * w ≤ n → m * w + w ≤ n
@@ -14,15 +14,12 @@ row_length xs a w h = length-take-le (a + w - a) (drop a xs) (rw length-drop (om
 pub row_item : {S : Type 0} (z : S) (xs : List S) (a w i : ℕ) → i < w → get_or (take (a + w - a) (drop a xs)) i z ≡ get_or xs (a + i) z
 row_item z xs a w i h = get_or-take (a + w - a) (drop a xs) i z (omega arith) ∙ get_or-drop a xs i z
 
--- the row of w places at x, where v is w by another name
-pub row_is : {S : Type 0} (x w v : ℕ) (xs : List S) → v ≡ w → take (x * v + v - x * v) (drop (x * v) xs) ≡ take w (drop (x * w) xs)
-row_is x w v xs e = let s : x * v + v - x * v ≡ w = omega arith in ap₂ (λ (n m : ℕ). take n (drop (x * m) xs)) s e
+-- a call that cannot fail
+pub succeeds : {X E : Type 0} (P Q : Type 0) (r : Result X E) → MatchResult r (λ _. P) (λ _. Q) → (Q → ⊥) → IsOk r
+succeeds P Q (Ok x) w never = refl
+succeeds P Q (Err e) w never = absurd (never w)
 
--- what is written over a whole row leaves nothing of it
-pub whole_row : (xs ys : List ℕ) (w : ℕ) → length ys ≤ w → xs ++ drop w ys ≡ xs
-whole_row xs ys w h = ap (λ (l : List ℕ). xs ++ l) (drop_all w ys h) ∙ append-nil xs
-
--- a test that cannot fail
-pub surely : {P Q : Type 0} (r : Bool) → MatchBool r P Q → (Q → ⊥) → P
-surely true w never = w
-surely false w never = absurd (never w)
+-- and one that has failed
+pub fails : {X E : Type 0} (P : X → Type 0) (Q : Type 0) (r : Result X E) → IsErr r → Q → MatchResult r P (λ _. Q)
+fails P Q (Ok x) h w = absurd (cc)
+fails P Q (Err e) h w = w

@@ -13,6 +13,14 @@ use Rattle.code.specs.Codes.{Numbers, Proper}
 abbrev pub by_code : ℕ → Refusal
 by_code number = refusal number (layer_number Code) 0
 
+-- an inner call that comes upon a bad symbol is refused so
+abbrev pub BadSymbolIsTold : Fault → Type 0
+BadSymbolIsTold f = refusal_of f ≡ by_code 14
+
+-- a number that no field has is refused
+abbrev pub field_grounds : ℕ → List Ground
+field_grounds number = ground (1 < number) (by_code 4) ∷ []
+
 -- a code is refused with numbers that no code has
 abbrev pub code_grounds : Numbers → List Ground
 code_grounds c = ground (Proper c → ⊥) (by_code 4) ∷ []

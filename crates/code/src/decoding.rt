@@ -1,6 +1,7 @@
-// A file from k of its shares.
-ghost use Rattle.std.specs.Prelude.{◌≡◌, ℕ, ◌+◌, ◌*◌, ◌<◌, ◌≤◌, true, false, length, MatchBool, ◌≢◌, slice_index};
-ghost use Rattle.code.specs.Lagrange.{entry, interpolated};
+// A file from k of its shares. `len` is the length of the file that comes back, and of no buffer here: any may be asked for. The parameters of a call
+// are handed on as they come, since a struct of them would be made to be taken apart at once.
+ghost use Rattle.std.specs.Prelude.{◌≡◌, ℕ, ◌+◌, ◌*◌, ◌<◌, ◌≤◌, length, MatchBool, MatchResult, slice_index};
+ghost use Rattle.code.specs.Lagrange.{value_at, IsByteOf, HasNoByte};
 ghost use Rattle.code.specs.Decoding.{Different};
 ghost use Rattle.code.specs.Codes.{numbers, field_of};
 ghost use Rattle.code.specs.Calls.{Recovers};
@@ -9,7 +10,7 @@ ghost use Rattle.code.specs.Theorems.{GivesBack};
 use crate::interpolation::{interpolate, points_of};
 use crate::shape::calls::refuse;
 use crate::shape::{Code, FieldChoice};
-use crate::symbols::{block_of, bytes_of, read_symbols, width_of};
+use crate::symbols::{BadSymbol, block_of, bytes_of, read_symbols};
 use field::Field;
 use field::binary::Binary;
 use field::prime::Prime;
@@ -19,98 +20,73 @@ use refusal::{Fault, Reason};
 fn are_different(n: usize, shares: &[usize]) -> bool
     ensures { MatchBool result (Different n shares.now) (Different n shares.now → ⊥) }
 {
-    for i in 0..shares.len() {
-        if shares[i] >= n {
+    // A loop that ends early: with enumerate and all the proof was tried, and its goal stayed open.
+    for (i, &share) in shares.iter().enumerate() {
+        if share >= n || shares[..i].contains(&share) {
             return false;
-        }
-        for j in 0..i {
-            if shares[i] == shares[j] {
-                return false;
-            }
         }
     }
     true
 }
 
-// Writes the bytes of the blocks, as far as they lie below len, or says no where one is no byte.
+// The bytes of the blocks, as far as they lie below len. Fails where one is no byte.
 fn decode_blocks<F: Field>(
     points: &[F::Symbol],
-    rows: &[F::Symbol],
+    rows: &[F::Symbol; 16384],
     block: usize,
     len: usize,
-    sums: &mut [F::Symbol],
-    found: &mut [u8],
-) -> bool
+) -> Result<[u8; 16384], BadSymbol>
     requires few { length points.now ≤ 16 }
     requires short { block ≤ 1024 }
-    requires whole { length points.now * block ≤ length rows.now }
-    requires sum_room { block ≤ length sums.old }
-    requires room { len ≤ length found.old }
     requires cut { len ≤ length points.now * block }
-    ensures { MatchBool result ((b i : ℕ) → i < block → b * block + i < len → (slice_index found.new (b * block + i) < 256) × (F.model.byte (slice_index found.new (b * block + i)) ≡ interpolated F.model (entry F.elem (F.sym F.model.zero) points.now) (λ m. entry F.elem (F.sym F.model.zero) rows.now (m * block + i)) (length points.now) (F.model.point b))) ((b : ℕ) × (i : ℕ) × (i < block) × (b * block + i < len) × ((y : ℕ) → y < 256 → F.model.byte y ≢ interpolated F.model (entry F.elem (F.sym F.model.zero) points.now) (λ m. entry F.elem (F.sym F.model.zero) rows.now (m * block + i)) (length points.now) (F.model.point b))) }
+    ensures { MatchResult result (λ found. (length found ≡ 16384) × ((b i : ℕ) → i < block → b * block + i < len → IsByteOf F.model (value_at F.Field points.now rows.now block (F.model.point b) i) (slice_index found (b * block + i)))) (λ _. (b : ℕ) × (i : ℕ) × (i < block) × (b * block + i < len) × HasNoByte F.model (value_at F.Field points.now rows.now block (F.model.point b) i)) }
 {
+    let mut found = [0u8; 16384];
+    // By the number b, which is that of the block, of its point and of its place: over chunks_mut it would be counted all the same.
     for b in 0..points.len() {
         let start = b * block;
         if start >= len {
-            return true;
+            break;
         }
-        let Some(point) = F::point(b) else {
-            unreachable()
-        };
-        interpolate::<F>(points, rows, block, point, sums);
+        let point = F::point(b).unwrap();
+        let sums = interpolate::<F>(points, rows, block, point);
         let count = block.min(len - start);
-        if !bytes_of::<F>(sums, count, start, found) {
-            return false;
-        }
+        bytes_of::<F>(&sums[..count], &mut found[start..])?;
     }
-    true
+    Ok(found)
 }
 
-// As decode_over, with room for the symbols, and for the bytes before all of them are known.
+// As decode_in, but for its second clause, which follows from the first: so the steps of the code are proved to one clause, and the theorem apart.
 fn decode_with<F: Field>(
     code: Code,
     shares: &[usize],
     payloads: &[u8],
-    symbols: &mut [F::Symbol],
-    sums: &mut [F::Symbol],
-    found: &mut [u8],
-    out: &mut [u8],
     len: usize,
+    out: &mut [u8],
 ) -> Result<(), Fault>
-    requires symbol_room { 16384 ≤ length symbols.old }
-    requires sum_room { 1024 ≤ length sums.old }
-    requires byte_room { 16384 ≤ length found.old }
     ensures { Recovers F.model (numbers code) len shares.now payloads.now out.old out.new result }
 {
-    let k = code.k();
+    let k = code.k;
     let Some(block) = block_of::<F>(len, k) else {
         return Err(refuse(Reason::BadLength));
     };
-    if shares.len() != k {
+    if shares.len() != k || payloads.len() != k * (block * F::WIDTH) {
         return Err(refuse(Reason::BadLength));
     }
-    if payloads.len() != k * (block * width_of::<F>()) {
-        return Err(refuse(Reason::BadLength));
-    }
-    if !are_different(code.n(), shares) {
+    if !are_different(code.n, shares) {
         return Err(refuse(Reason::BadShare));
     }
     if out.len() < len {
         return Err(refuse(Reason::ShortBuffer));
     }
-    if !read_symbols::<F>(payloads, k * block, symbols) {
-        return Err(refuse(Reason::BadSymbol));
-    }
+    let symbols = read_symbols::<F>(payloads, k * block)?;
     let points = points_of::<F>(shares);
-    let all = &points[..];
-    if !decode_blocks::<F>(&all[0..k], symbols, block, len, sums, found) {
-        return Err(refuse(Reason::BadSymbol));
-    }
-    out[0..len].copy_from_slice(&found[0..len]);
+    let found = decode_blocks::<F>(&points[..k], &symbols, block, len)?;
+    out[..len].copy_from_slice(&found[..len]);
     Ok(())
 }
 
-// As decode_over.
+// As decode_over. The second clause is proved here, so that a wrong call is refused by the contract of decode_over alone (a rule of the project).
 fn decode_in<F: Field>(
     code: Code,
     shares: &[usize],
@@ -121,36 +97,7 @@ fn decode_in<F: Field>(
     ensures answers { Recovers F.model (numbers code) len shares.now payloads.now out.old out.new result }
     ensures restores { GivesBack F.model (numbers code) len shares.now payloads.now out.old out.new result }
 {
-    let mut symbols = [F::zero(); 16384];
-    let mut sums = [F::zero(); 1024];
-    let mut found = [0u8; 16384];
-    decode_with::<F>(
-        code,
-        shares,
-        payloads,
-        &mut symbols,
-        &mut sums,
-        &mut found,
-        out,
-        len,
-    )
-}
-
-// As decode.
-fn decode_by(
-    code: Code,
-    shares: &[usize],
-    payloads: &[u8],
-    len: usize,
-    out: &mut [u8],
-) -> Result<(), Fault>
-    ensures answers { Recovers (field_of (numbers code).field).model (numbers code) len shares.now payloads.now out.old out.new result }
-    ensures restores { GivesBack (field_of (numbers code).field).model (numbers code) len shares.now payloads.now out.old out.new result }
-{
-    match code.field() {
-        FieldChoice::Binary => decode_in::<Binary>(code, shares, payloads, len, out),
-        FieldChoice::Prime => decode_in::<Prime>(code, shares, payloads, len, out),
-    }
+    decode_with::<F>(code, shares, payloads, len, out)
 }
 
 impl Code {
@@ -171,6 +118,7 @@ impl Code {
 
     // Writes the file of this length to the start of the buffer, from k different shares with their payloads one after another,
     // over the code's field.
+    #[tactic(auto, using(crate::proofs::Chosen::over_prime, crate::proofs::Chosen::over_binary))]
     pub fn decode(
         self,
         shares: &[usize],
@@ -181,6 +129,9 @@ impl Code {
         ensures answers { Recovers (field_of (numbers self).field).model (numbers self) len shares.now payloads.now out.old out.new result }
         ensures restores { GivesBack (field_of (numbers self).field).model (numbers self) len shares.now payloads.now out.old out.new result }
     {
-        decode_by(self, shares, payloads, len, out)
+        match self.field {
+            FieldChoice::Binary => self.decode_over::<Binary>(shares, payloads, len, out),
+            FieldChoice::Prime => self.decode_over::<Prime>(shares, payloads, len, out),
+        }
     }
 }

@@ -1,43 +1,44 @@
-// The values of polynomials of degree below k at a point, from their values at k points.
-ghost use Rattle.std.specs.Prelude.{◌≡◌, ℕ, ◌+◌, ◌*◌, ◌<◌, ◌≤◌, length, slice_index, slice_index_or};
-ghost use Rattle.code.specs.Lagrange.{entry, others, weight, interpolated};
+// The values of polynomials of degree below k at a point, from their values at k points. Rows lie one after another in one buffer of a fixed size, each
+// `block` symbols long: no call allocates (a rule of the project). Loops write by place, since a zip with iter_mut lends what it writes to, and of
+// lent elements a proof knows nothing.
+ghost use Rattle.std.specs.Prelude.{◌≡◌, ℕ, ◌*◌, ◌<◌, ◌≤◌, length, All, slice_index};
+ghost use Rattle.code.specs.Lagrange.{entry, others, weight, value_at};
 
 use field::Field;
 
 // The points of the shares with these numbers.
 pub(crate) fn points_of<F: Field>(shares: &[usize]) -> [F::Symbol; 16]
     requires few { length shares.now ≤ 16 }
-    requires known { (i : ℕ) → i < length shares.now → slice_index shares.now i < 32 }
+    requires known { All (λ j. j < 32) shares.now }
     ensures size { length result ≡ 16 }
-    ensures points { (i : ℕ) → i < length shares.now → slice_index_or result i (F.sym F.model.zero) ≡ F.sym (F.model.point (slice_index shares.now i)) }
+    ensures points { (i : ℕ) → i < length shares.now → entry F.Field result i ≡ F.model.point (slice_index shares.now i) }
 {
     let mut points = [F::zero(); 16];
-    for i in 0..shares.len() {
-        let Some(point) = F::point(shares[i]) else {
-            unreachable()
-        };
-        points[i] = point;
+    for (i, &share) in shares.iter().enumerate() {
+        points[i] = F::point(share).unwrap();
     }
     points
 }
 
 // The product of y - x over the points x but the one at place b.
+#[tactic(auto, using(crate::proofs::Turns::turns))]
 fn product_without<F: Field>(points: &[F::Symbol], b: usize, y: F::Symbol) -> F::Symbol
-    ensures { result ≡ F.sym (others F.model (entry F.elem (F.sym F.model.zero) points.now) b (length points.now) (F.elem y)) }
+    ensures { F.elem result ≡ others F.model (entry F.Field points.now) b (length points.now) (F.elem y) }
 {
     let mut product = F::one();
-    for m in 0..points.len() {
+    for (m, &x) in points.iter().enumerate() {
         if m != b {
-            product = F::mul(product, F::sub(y, points[m]));
+            product = F::mul(product, F::sub(y, x));
         }
     }
     product
 }
 
 // The weight of the value at point b in the value at y.
+#[tactic(auto, unfolding(crate::specs::Lagrange::weight))]
 fn weight_of<F: Field>(points: &[F::Symbol], b: usize, y: F::Symbol) -> F::Symbol
     requires { b < length points.now }
-    ensures { result ≡ F.sym (weight F.model (entry F.elem (F.sym F.model.zero) points.now) (length points.now) (F.elem y) b) }
+    ensures { F.elem result ≡ weight F.model (entry F.Field points.now) (length points.now) (F.elem y) b }
 {
     let above = product_without::<F>(points, b, y);
     let below = product_without::<F>(points, b, points[b]);
@@ -47,42 +48,33 @@ fn weight_of<F: Field>(points: &[F::Symbol], b: usize, y: F::Symbol) -> F::Symbo
 // Adds a row, each symbol times the weight, to the sums.
 fn add_scaled<F: Field>(sums: &mut [F::Symbol], row: &[F::Symbol], weight: F::Symbol)
     requires { length row.now ≤ length sums.old }
-    ensures { (i : ℕ) → i < length row.now → slice_index_or sums.new i (F.sym F.model.zero) ≡ F.sym (F.model.add (entry F.elem (F.sym F.model.zero) sums.old i) (F.model.mul (F.elem weight) (entry F.elem (F.sym F.model.zero) row.now i))) }
+    ensures { (i : ℕ) → i < length row.now → entry F.Field sums.new i ≡ F.model.add (entry F.Field sums.old i) (F.model.mul (F.elem weight) (entry F.Field row.now i)) }
 {
-    for i in 0..row.len() {
-        sums[i] = F::add(sums[i], F::mul(weight, row[i]));
-    }
-}
-
-// Sets the first symbols to zero.
-fn clear<F: Field>(sums: &mut [F::Symbol], count: usize)
-    requires { count ≤ length sums.old }
-    ensures { (i : ℕ) → i < count → slice_index_or sums.new i (F.sym F.model.zero) ≡ F.sym F.model.zero }
-{
-    let zero = F::zero();
-    for i in 0..count {
-        sums[i] = zero;
+    for (i, &symbol) in row.iter().enumerate() {
+        sums[i] = F::add(sums[i], F::mul(weight, symbol));
     }
 }
 
 // The values at y, one for each place, of the polynomials through the rows, of which row m has the values at point m.
+#[tactic(auto, unfolding(crate::specs::Lagrange::interpolated))]
 pub(crate) fn interpolate<F: Field>(
     points: &[F::Symbol],
-    rows: &[F::Symbol],
+    rows: &[F::Symbol; 16384],
     block: usize,
     y: F::Symbol,
-    sums: &mut [F::Symbol],
-)
-    requires few { length points.now ≤ 16 }
+) -> [F::Symbol; 1024]
     requires short { block ≤ 1024 }
-    requires whole { length points.now * block ≤ length rows.now }
-    requires room { block ≤ length sums.old }
-    ensures { (i : ℕ) → i < block → slice_index_or sums.new i (F.sym F.model.zero) ≡ F.sym (interpolated F.model (entry F.elem (F.sym F.model.zero) points.now) (λ m. entry F.elem (F.sym F.model.zero) rows.now (m * block + i)) (length points.now) (F.elem y)) }
+    requires whole { length points.now * block ≤ 16384 }
+    ensures size { length result ≡ 1024 }
+    ensures values { (i : ℕ) → i < block → entry F.Field result i ≡ value_at F.Field points.now rows.now block (F.elem y) i }
 {
-    clear::<F>(sums, block);
+    let rows = &rows[..];
+    let mut sums = [F::zero(); 1024];
+    // By the number m, which is that of the row, of its point and of its weight: over chunks_exact it would be counted all the same.
     for m in 0..points.len() {
         let weight = weight_of::<F>(points, m, y);
         let start = m * block;
-        add_scaled::<F>(sums, &rows[start..start + block], weight);
+        add_scaled::<F>(&mut sums, &rows[start..start + block], weight);
     }
+    sums
 }

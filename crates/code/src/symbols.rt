@@ -1,105 +1,95 @@
-// From bytes to symbols and back.
-ghost use Rattle.std.specs.Prelude.{◌≡◌, ℕ, ◌+◌, ◌*◌, ◌<◌, ◌≤◌, true, false, ◌++◌, length, take, drop, MatchBool, MatchOption, ◌≢◌, slice_index, slice_index_or};
+// From bytes to symbols and back. Symbols stand in one buffer of a fixed size, with their number beside it: no call allocates (a rule of the project). Loops
+// write by place, since a zip with iter_mut lends what it writes to, and of lent elements a proof knows nothing.
+ghost use Rattle.std.specs.Prelude.{◌≡◌, ℕ, ◌+◌, ◌*◌, ◌<◌, ◌≤◌, ◌++◌, length, take, drop, MatchResult, ◌≢◌, slice_index};
+ghost use Rattle.std.specs.Option.{SomeIff};
 ghost use Rattle.code.specs.Shares.{block_length, Sized, serial};
-ghost use Rattle.code.specs.Lagrange.{entry};
+ghost use Rattle.code.specs.Lagrange.{entry, IsByteOf, HasNoByte};
 
+use crate::shape::calls::refuse;
 use field::Field;
+use refusal::{Fault, Reason};
 
-// How many bytes a symbol is stored in: the field's constant. Its value is not known here, so the field's own answer confirms it.
-pub(crate) fn width_of<F: Field>() -> usize
-    ensures { result ≡ F.model.width }
-{
-    let width = F::WIDTH;
-    if width == F::stored_width() {
-        width
-    } else {
-        F::stored_width()
+// A stored symbol is outside the field, or a value is no byte.
+#[derive(Clone, Copy, Debug, PartialEq, Eq, Hash)]
+pub(crate) struct BadSymbol;
+
+// Such a symbol is a refusal of the call.
+impl From<BadSymbol> for Fault {
+    ghost use Rattle.code.specs.Calls.{BadSymbolIsTold};
+
+    ghost from_gives = { λ _ fault. BadSymbolIsTold fault };
+
+    fn from(_error: BadSymbol) -> Fault {
+        refuse(Reason::BadSymbol)
     }
 }
 
 // The length of a block of a file of this length, or none where the file has no shares.
+#[tactic(auto, using(crate::proofs::Blocks::rounded))]
 pub(crate) fn block_of<F: Field>(len: usize, k: usize) -> Option<usize>
     requires { 1 ≤ k }
-    ensures { MatchOption result (Sized len k F.model.width → ⊥) (λ b. (b ≡ block_length len k) × Sized len k F.model.width) }
+    ensures { SomeIff result (Sized len k F.model.width) (block_length len k) }
 {
     if len == 0 {
         return None;
     }
-    let block = (len - 1) / k + 1;
-    let width = width_of::<F>();
-    if block > 1024 || width > 1024 {
-        return None;
-    }
-    if block * width > 1024 {
+    let block = len.div_ceil(k);
+    if block.saturating_mul(F::WIDTH) > 1024 {
         None
     } else {
         Some(block)
     }
 }
 
-// The symbols of the file, filled with zero bytes up to this count.
-pub(crate) fn load_file<F: Field>(file: &[u8], count: usize, symbols: &mut [F::Symbol])
-    requires whole { length file.now ≤ count }
-    requires room { count ≤ length symbols.old }
-    ensures { (t : ℕ) → t < count → slice_index_or symbols.new t (F.sym F.model.zero) ≡ F.sym (F.model.byte (slice_index file.now t)) }
+// The symbols of the file, filled with zero bytes.
+pub(crate) fn load_file<F: Field>(file: &[u8]) -> [F::Symbol; 16384]
+    requires { length file.now ≤ 16384 }
+    ensures size { length result ≡ 16384 }
+    ensures symbols { (t : ℕ) → t < 16384 → entry F.Field result t ≡ F.model.byte (slice_index file.now t) }
 {
-    for t in 0..file.len() {
-        symbols[t] = F::from_byte(file[t]);
+    let mut symbols = [F::from_byte(0); 16384];
+    for (t, &byte) in file.iter().enumerate() {
+        symbols[t] = F::from_byte(byte);
     }
-    let fill = F::from_byte(0);
-    for u in file.len()..count {
-        symbols[u] = fill;
+    symbols
+}
+
+// Writes the stored forms of the symbols to the start of the buffer.
+pub(crate) fn store<F: Field>(symbols: &[F::Symbol], out: &mut [u8])
+    requires small { length symbols.now * F.model.width ≤ 1024 }
+    requires room { length symbols.now * F.model.width ≤ length out.old }
+    ensures { out.new ≡ serial F.model (entry F.Field symbols.now) (length symbols.now) ++ drop (length symbols.now * F.model.width) out.old }
+{
+    for (i, &symbol) in symbols.iter().enumerate() {
+        F::write(&mut out[i * F::WIDTH..], symbol).unwrap();
     }
 }
 
-// Writes the stored forms of the first symbols to the start of the buffer.
-pub(crate) fn store<F: Field>(symbols: &[F::Symbol], count: usize, out: &mut [u8])
-    requires some { count ≤ length symbols.now }
-    requires small { count * F.model.width ≤ 1024 }
-    requires room { count * F.model.width ≤ length out.old }
-    ensures { out.new ≡ serial F.model (entry F.elem (F.sym F.model.zero) symbols.now) count ++ drop (count * F.model.width) out.old }
-{
-    let width = width_of::<F>();
-    for i in 0..count {
-        F::write(&mut out[i * width..i * width + width], symbols[i]);
-    }
-}
-
-// Reads the symbols that are stored one after another, or says no where one is outside the field.
-pub(crate) fn read_symbols<F: Field>(bytes: &[u8], count: usize, symbols: &mut [F::Symbol]) -> bool
-    requires room { count ≤ length symbols.old }
+// Reads the symbols that are stored one after another, or fails where one is outside the field.
+pub(crate) fn read_symbols<F: Field>(
+    bytes: &[u8],
+    count: usize,
+) -> Result<[F::Symbol; 16384], BadSymbol>
     requires few { count ≤ 16384 }
     requires whole { length bytes.now ≡ count * F.model.width }
     requires small { count * F.model.width ≤ 16384 }
-    ensures { MatchBool result ((t : ℕ) → t < count → F.model.stored (entry F.elem (F.sym F.model.zero) symbols.new t) ≡ take F.model.width (drop (t * F.model.width) bytes.now)) ((t : ℕ) × (t < count) × ((e : F.elements) → F.model.stored e ≢ take F.model.width (drop (t * F.model.width) bytes.now))) }
+    ensures { MatchResult result (λ symbols. (length symbols ≡ 16384) × ((t : ℕ) → t < count → F.model.stored (entry F.Field symbols t) ≡ take F.model.width (drop (t * F.model.width) bytes.now))) (λ _. (t : ℕ) × (t < count) × ((e : F.elements) → F.model.stored e ≢ take F.model.width (drop (t * F.model.width) bytes.now))) }
 {
-    let width = width_of::<F>();
+    let mut symbols = [F::zero(); 16384];
+    // By place: over chunks_exact the proof was tried, and five goals stayed open.
     for t in 0..count {
-        let Some(symbol) = F::read(&bytes[t * width..t * width + width]) else {
-            return false;
-        };
-        symbols[t] = symbol;
+        symbols[t] = F::read(&bytes[t * F::WIDTH..t * F::WIDTH + F::WIDTH]).ok_or(BadSymbol)?;
     }
-    true
+    Ok(symbols)
 }
 
-// Writes the bytes that stand for the first symbols from a place on, or says no where one is no byte.
-pub(crate) fn bytes_of<F: Field>(
-    symbols: &[F::Symbol],
-    count: usize,
-    start: usize,
-    out: &mut [u8],
-) -> bool
-    requires some { count ≤ length symbols.now }
-    requires room { start + count ≤ length out.old }
-    ensures bytes { MatchBool result ((i : ℕ) → i < count → (slice_index out.new (start + i) < 256) × (F.model.byte (slice_index out.new (start + i)) ≡ entry F.elem (F.sym F.model.zero) symbols.now i)) ((i : ℕ) × (i < count) × ((b : ℕ) → b < 256 → F.model.byte b ≢ entry F.elem (F.sym F.model.zero) symbols.now i)) }
-    ensures kept { (t : ℕ) → t < start → slice_index out.new t ≡ slice_index out.old t }
+// Writes the bytes that stand for the symbols to the start of the buffer, or fails where one is no byte.
+pub(crate) fn bytes_of<F: Field>(symbols: &[F::Symbol], out: &mut [u8]) -> Result<(), BadSymbol>
+    requires { length symbols.now ≤ length out.old }
+    ensures { MatchResult result (λ _. (i : ℕ) → i < length symbols.now → IsByteOf F.model (entry F.Field symbols.now i) (slice_index out.new i)) (λ _. (i : ℕ) × (i < length symbols.now) × HasNoByte F.model (entry F.Field symbols.now i)) }
 {
-    for i in 0..count {
-        let Some(byte) = F::to_byte(symbols[i]) else {
-            return false;
-        };
-        out[start + i] = byte;
+    for (i, &symbol) in symbols.iter().enumerate() {
+        out[i] = F::to_byte(symbol).ok_or(BadSymbol)?;
     }
-    true
+    Ok(())
 }

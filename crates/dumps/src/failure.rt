@@ -9,10 +9,14 @@ use std::io;
 pub enum Failure {
     // a call was turned down
     TurnedDown(Fault),
+    // no share of this number was made
+    NoShare(usize),
     // there is no memory left
     Memory,
     // a file, the clock or the output failed
     System(io::Error),
+    // the first argument is no request that the program knows
+    UnknownRequest,
 }
 
 impl From<Fault> for Failure {

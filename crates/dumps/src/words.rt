@@ -1,61 +1,14 @@
-// Refusals and lists of numbers in words.
-use refusal::{Fault, Layer, Reason};
+// Bytes, lists of numbers and answers in words.
+ghost use Rattle.std.specs.Prelude.{◌≡◌, ◌↔◌, IsTrue};
+ghost use Rattle.dumps.specs.Words.{answer_in};
+
+use crate::failure::Failure;
+use image::check::fnv1a;
+use refusal::Fault;
 use std::fmt;
 
-// What a reason says.
-fn reason_words(reason: Reason) -> &'static str {
-    match reason {
-        Reason::BadSled => "the bank has no sled of this number",
-        Reason::UnknownFile => "the catalogue has no file of this id",
-        Reason::BadCode => "no code has these numbers",
-        Reason::BadLength => "a file, a payload or a list of shares has a length out of its limits",
-        Reason::KnownFile => "the catalogue has a file of this id already",
-        Reason::ForeignShare => "a share is held under an id that the code does not give",
-        Reason::Unhappy => "no placement reaches the happiness that is asked for",
-        Reason::SledOut => "a sled is out",
-        Reason::StrangeSlip => "the slip is of another grid, or its sled is not out",
-        Reason::CatalogueFull => "the catalogue has no place left",
-        Reason::TooFew => "too few different shares are on present sleds",
-        Reason::ShortBuffer => "the output buffer is shorter than what is due",
-        Reason::BadSymbol => "a stored symbol is outside the field, or a block's value is no byte",
-        Reason::Absent => "the share is not held",
-        Reason::Held => "the share is held already",
-        Reason::NoRoom => "the sled has no room",
-        Reason::BadImage => "the image breaks its layout",
-        Reason::BadShare => "a share number is out of its range, or stands twice",
-    }
-}
-
-// The name of a layer.
-fn layer_name(layer: Layer) -> &'static str {
-    match layer {
-        Layer::Image => "image",
-        Layer::Bank => "bank",
-        Layer::Code => "code",
-        Layer::Grid => "grid",
-    }
-}
-
-// A refusal, to be printed in words.
-#[derive(Clone, Copy)]
-pub struct Told(pub Fault);
-
-impl fmt::Display for Told {
-    // Writes the reason in words, its number, the layer and the detail.
-    fn fmt<W: fmt::Write>(&self, f: &mut fmt::Formatter<W>) -> fmt::Result {
-        let words = reason_words(self.0.reason);
-        let number = self.0.reason.number();
-        let layer = layer_name(self.0.layer);
-        let detail = self.0.detail;
-        write!(
-            f,
-            "{words} (reason {number}, layer {layer}, detail {detail})"
-        )
-    }
-}
-
-// A list of numbers, to be printed in one line.
-#[derive(Clone, Copy)]
+// A list of numbers, to be printed in one line, as slices do not print.
+#[derive(Clone, Copy, Debug)]
 pub struct Listed<'a>(pub &'a [usize]);
 
 impl fmt::Display for Listed<'_> {
@@ -68,5 +21,78 @@ impl fmt::Display for Listed<'_> {
             write!(f, "{number}")?;
         }
         Ok(())
+    }
+}
+
+// Some bytes, to be printed by how many they are and what they sum up to.
+#[derive(Clone, Copy, Debug)]
+pub struct Summed<'a>(pub &'a [u8]);
+
+impl fmt::Display for Summed<'_> {
+    // Writes the number of the bytes and their check sum.
+    fn fmt<W: fmt::Write>(&self, f: &mut fmt::Formatter<W>) -> fmt::Result {
+        let len = self.0.len();
+        let sum = fnv1a(self.0);
+        write!(f, "{len} bytes, check sum {sum:#018x}")
+    }
+}
+
+// What comes back of a dump.
+#[derive(Clone, Copy, Debug)]
+pub struct Returned<'a> {
+    pub dump: &'a [u8],
+    pub file: &'a [u8],
+}
+
+impl Returned<'_> {
+    // Whether the dump itself comes back.
+    pub fn is_dump(&self) -> bool
+        ensures { IsTrue result ↔ (self.now.file.now ≡ self.now.dump.now) }
+    {
+        self.file == self.dump
+    }
+}
+
+impl fmt::Display for Returned<'_> {
+    // Writes what the bytes sum up to, and whether they are the dump.
+    fn fmt<W: fmt::Write>(&self, f: &mut fmt::Formatter<W>) -> fmt::Result {
+        let file = Summed(self.file);
+        let verdict = if self.is_dump() {
+            "the same as the dump, byte by byte"
+        } else {
+            "not the dump"
+        };
+        write!(f, "what comes back: {file}, {verdict}")
+    }
+}
+
+// How a request is answered: it is granted, or refused.
+#[derive(Clone, Copy, Debug)]
+pub struct Answer {
+    pub outcome: Result<(), Fault>,
+}
+
+impl Answer {
+    // The answer that a result tells. What it gives is let go, and a failure that is no refusal stays one.
+    pub fn of<T: Drop>(outcome: Result<T, Failure>) -> Result<Answer, Failure>
+        ensures { result ≡ answer_in outcome }
+    {
+        match outcome {
+            Ok(_) => Ok(Answer { outcome: Ok(()) }),
+            Err(Failure::TurnedDown(fault)) => Ok(Answer {
+                outcome: Err(fault),
+            }),
+            Err(other) => Err(other),
+        }
+    }
+}
+
+impl fmt::Display for Answer {
+    // Writes the answer, and the refusal in words.
+    fn fmt<W: fmt::Write>(&self, f: &mut fmt::Formatter<W>) -> fmt::Result {
+        match self.outcome {
+            Ok(()) => write!(f, "granted"),
+            Err(fault) => write!(f, "refused: {fault}"),
+        }
     }
 }

@@ -2,7 +2,7 @@
 use Rattle.std.specs.Prelude.{◌≡◌, ℕ, zero, suc, ◌+◌, ◌*◌, ◌/◌, ◌%◌, ◌^◌, ◌<◌, bit_xor, refl}
 use Rattle.std.proofs.Common.{sym, ap, ap₂, subst, ◌∙◌, inl, inr, arith, zero-mul, one-mul, pow-suc, lit<, pow_pos}
 use Rattle.std.specs.Int.Bits.{xor_assoc, xor_zero_r, xor_self, xor_shifted}
-use Rattle.std.proofs.lemmas.Nat.{div_below, shr_split, mod_below, xor_comm, xor_shr, xor_mod, xor_block}
+use Rattle.std.proofs.lemmas.Nat.{div_below, shr_split, mod_below, xor_lt, xor_comm, xor_shr, xor_mod, xor_block}
 use Rattle.std.proofs.lemmas.Bool.{cases_eq}
 use Rattle.field.specs.Binary.{product, remainder, times}
 
@@ -17,6 +17,27 @@ span P none kept (suc n) at b h =
       | inr d ↦ let e : q ≡ 1 = omega arith in subst P (sym (ap (λ (m : ℕ). m * 2 ^ n) e ∙ one-mul (2 ^ n))) (at n (omega arith))
     ] in
     subst P (xor_shifted (b / 2 ^ n) n (b % 2 ^ n) (mod_below b (2 ^ n) (pow_pos n)) ∙ shr_split b n) (kept _ _ (bit (b / 2 ^ n) t) low)
+
+-- a function that takes sums to sums
+abbrev pub Linear : (ℕ → ℕ) → Type 0
+Linear f = (x y : ℕ) → f (bit_xor x y) ≡ bit_xor (f x) (f y)
+
+-- it takes 0 to 0
+pub linear_zero : (f : ℕ → ℕ) → Linear f → f 0 ≡ 0
+linear_zero f linear = linear 0 0 ∙ xor_self (f 0)
+
+-- one after another is linear
+pub linear_both : (f g : ℕ → ℕ) → Linear f → Linear g → Linear (λ x. f (g x))
+linear_both f g linear linear' x y = ap f (linear' x y) ∙ linear (g x) (g y)
+
+-- two that agree at the powers of two agree
+pub linear_same : (f g : ℕ → ℕ) → Linear f → Linear g → (n : ℕ) → ((i : ℕ) → i < n → f (2 ^ i) ≡ g (2 ^ i)) → (b : ℕ) → b < 2 ^ n → f b ≡ g b
+linear_same f g linear linear' = span (λ b. f b ≡ g b) (linear_zero f linear ∙ sym (linear_zero g linear')) (λ x y p q. linear x y ∙ ap₂ bit_xor p q ∙ sym (linear' x y))
+
+-- one that is below 2^k at the powers of two is below it
+pub linear_below : (k : ℕ) (f : ℕ → ℕ) → Linear f → (n : ℕ) → ((i : ℕ) → i < n → f (2 ^ i) < 2 ^ k) → (b : ℕ) → b < 2 ^ n → f b < 2 ^ k
+linear_below k f linear = span (λ b. f b < 2 ^ k) (subst (λ (m : ℕ). m < 2 ^ k) (sym (linear_zero f linear)) (pow_pos k))
+    (λ x y p q. subst (λ (m : ℕ). m < 2 ^ k) (sym (linear x y)) (xor_lt k (f x) (f y) p q))
 
 -- the four terms of two sums, sorted otherwise
 pub middle : (a b c d : ℕ) → bit_xor (bit_xor a b) (bit_xor c d) ≡ bit_xor (bit_xor a c) (bit_xor b d)
@@ -72,10 +93,10 @@ remainder_sum (suc n) a b =
     ap (remainder n) (ap (bit_xor (bit_xor a b)) (ap (λ (m : ℕ). (m % 2) * (0x11D * 2 ^ n)) (xor_shr a b (8 + n)) ∙ odd_scale (a / 2 ^ (8 + n)) (b / 2 ^ (8 + n)) (0x11D * 2 ^ n)) ∙ middle a b ((a / 2 ^ (8 + n) % 2) * (0x11D * 2 ^ n)) ((b / 2 ^ (8 + n) % 2) * (0x11D * 2 ^ n)))
     ∙ remainder_sum n (bit_xor a ((a / 2 ^ (8 + n) % 2) * (0x11D * 2 ^ n))) (bit_xor b ((b / 2 ^ (8 + n) % 2) * (0x11D * 2 ^ n)))
 
-pub times_right : (a b c : ℕ) → times a (bit_xor b c) ≡ bit_xor (times a b) (times a c)
+pub times_right : (a : ℕ) → Linear (times a)
 unfolding times
 times_right a b c = ap (remainder 7) (product_right 8 a b c) ∙ remainder_sum 7 (product 8 a b) (product 8 a c)
 
-pub times_left : (a b c : ℕ) → times (bit_xor a b) c ≡ bit_xor (times a c) (times b c)
+pub times_left : (c : ℕ) → Linear (λ a. times a c)
 unfolding times
-times_left a b c = ap (remainder 7) (product_left 8 a b c) ∙ remainder_sum 7 (product 8 a c) (product 8 b c)
+times_left c a b = ap (remainder 7) (product_left 8 a b c) ∙ remainder_sum 7 (product 8 a c) (product 8 b c)

@@ -11,6 +11,6 @@ abbrev pub modulo : (n : ℕ) → 0 < n → ℕ → Below n
 modulo n pos x = (x % n, lt→ltb (x % n) n (mod-lt x pos))
 
 -- start s s^2 s^4 .., with n factors after start
-unfoldable pub square_chain : (ℕ → ℕ → ℕ) → ℕ → ℕ → ℕ → ℕ
+unfoldable pub square_chain : {A : Type 0} → (A → A → A) → ℕ → A → A → A
 square_chain mul zero start s = start
 square_chain mul (suc n) start s = square_chain mul n (mul start s) (mul s s)

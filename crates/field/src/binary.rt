@@ -1,15 +1,16 @@
 // The field of 256 symbols: bytes as polynomials over 0 and 1, the product reduced by 0x11D.
-ghost use Rattle.std.specs.Prelude.{◌≡◌, ℕ, ◌*◌, ◌/◌};
+ghost use Rattle.std.specs.Prelude.{◌≡◌, refl, ℕ, ◌*◌, ◌/◌};
 ghost use Rattle.field.specs.Residues.{Below};
 ghost use Rattle.field.specs.Binary.{binary, symbol, times, inverse_of, point_of};
 ghost use Rattle.field.specs.BinaryLaws as laws;
 ghost use Rattle.std.proofs.Common.{lit<, rules};
 ghost use Rattle.field.specs.Below.{modulo-below};
 
-use crate::Field;
+use crate::{Field, TooShort, product_of_squares, write_front};
 
-#[derive(Drop)]
-pub struct Binary {}
+// The field of 256 symbols, as a type.
+#[derive(Clone, Copy, Debug, PartialEq, Eq, Hash)]
+pub struct Binary;
 
 // What is left of 0x11D where the bit that leaves at the top is set.
 fn reduction(a: u8) -> u8
@@ -19,6 +20,7 @@ fn reduction(a: u8) -> u8
 }
 
 // The product with x: the bits move up by one, and the one that leaves takes 0x11D away.
+#[tactic(auto, using(crate::proofs::Steps::doubled_is))]
 fn double(a: u8) -> u8
     ensures { result ≡ times a 2 }
 {
@@ -26,6 +28,7 @@ fn double(a: u8) -> u8
 }
 
 // The sum, which is the difference too.
+#[tactic(auto, using(crate::proofs::Steps::add_plain))]
 fn sum_of(a: u8, b: u8) -> u8
     ensures { result ≡ (binary.add (symbol a) (symbol b)).0 }
 {
@@ -37,13 +40,12 @@ fn multiply(a: u8, b: u8) -> u8
     ensures plain { result ≡ times a b }
     ensures symbols { result ≡ (binary.mul (symbol a) (symbol b)).0 }
 {
+    // a fold would carry both over in a pair, and be no plainer
     let mut sum: u8 = 0;
     let mut shifted = a;
-    let mut rest = b;
-    for _i in 0..8usize {
-        sum ^= rest % 2 * shifted;
+    for i in 0..8u32 {
+        sum ^= (b >> i) % 2 * shifted;
         shifted = double(shifted);
-        rest /= 2;
     }
     sum
 }
@@ -52,27 +54,17 @@ fn multiply(a: u8, b: u8) -> u8
 fn invert(a: u8) -> u8
     ensures { result ≡ inverse_of a }
 {
-    let mut result: u8 = 1;
-    let mut power = multiply(a, a);
-    for _i in 0..7usize {
-        result = multiply(result, power);
-        power = multiply(power, power);
-    }
-    result
+    product_of_squares(7, 1, multiply(a, a), multiply)
 }
 
 // 0, or 2 to the power j - 1.
 fn point_at(j: usize) -> u8
     ensures { result ≡ point_of j }
 {
-    if j == 0 {
-        return 0;
+    match j {
+        0 => 0,
+        _ => (1..j).fold(1, |power, _| double(power)),
     }
-    let mut power: u8 = 1;
-    for _i in 1..j {
-        power = double(power);
-    }
-    power
 }
 
 impl Field for Binary {
@@ -82,6 +74,10 @@ impl Field for Binary {
 
     const WIDTH: usize = 1;
 
+    ghost SIZE = { 256 };
+
+    ghost WIDTH = { 1 };
+
     ghost elements = { Below 256 };
 
     ghost model = { binary };
@@ -90,19 +86,15 @@ impl Field for Binary {
 
     ghost sym = { λ e. e.0 };
 
+    ghost sized = { refl };
+
+    ghost wide = { refl };
+
     ghost lawful = { laws.lawful };
 
     ghost recovers = { λ e. modulo-below 256 (lit< tt) e };
 
     ghost small = { Prim.search rules };
-
-    fn symbols() -> usize {
-        Self::SIZE
-    }
-
-    fn stored_width() -> usize {
-        Self::WIDTH
-    }
 
     fn zero() -> u8 {
         0
@@ -129,7 +121,7 @@ impl Field for Binary {
     }
 
     fn point(j: usize) -> Option<u8> {
-        if j < 32 { Some(point_at(j)) } else { None }
+        (j < 32).then(|| point_at(j))
     }
 
     fn from_byte(b: u8) -> u8 {
@@ -141,17 +133,13 @@ impl Field for Binary {
     }
 
     fn read(bytes: &[u8]) -> Option<u8> {
-        if bytes.len() != Self::WIDTH {
+        let &[byte] = bytes else {
             return None;
-        }
-        Some(bytes[0])
+        };
+        Some(byte)
     }
 
-    fn write(out: &mut [u8], a: u8) -> bool {
-        if out.len() < Self::WIDTH {
-            return false;
-        }
-        out[0] = a;
-        true
+    fn write(out: &mut [u8], a: u8) -> Result<(), TooShort> {
+        write_front(out, [a])
     }
 }

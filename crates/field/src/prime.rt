@@ -1,22 +1,23 @@
 // The field of the numbers modulo 257.
-ghost use Rattle.std.specs.Prelude.{◌≡◌, ℕ, ◌<◌, MatchOption, ◌≢◌};
+ghost use Rattle.std.specs.Prelude.{◌≡◌, refl, ℕ, ◌<◌, MatchOption, ◌≢◌};
 ghost use Rattle.field.specs.Residues.{Below};
 ghost use Rattle.field.specs.Prime.{prime, symbol, times};
 ghost use Rattle.field.specs.PrimeLaws as laws;
 ghost use Rattle.std.proofs.Common.{lit<, rules};
 ghost use Rattle.field.specs.Below.{modulo-below};
 
-use crate::Field;
+use crate::{Field, TooShort, product_of_squares, write_front};
 
-#[derive(Drop)]
-pub struct Prime {}
+// The field of 257 symbols, as a type.
+#[derive(Clone, Copy, Debug, PartialEq, Eq, Hash)]
+pub struct Prime;
 
-// The product. 65536 is 1 modulo 257, so its two halves may be added: that keeps every remainder in 16 bits.
+// The product. `as`, since each half has 16 bits. 65536 is 1 modulo 257, so its two halves may be added: that keeps every remainder in 16 bits.
 fn multiply(a: u16, b: u16) -> u16
     ensures plain { result ≡ times a b }
     ensures symbols { result ≡ (prime.mul (symbol a) (symbol b)).0 }
 {
-    let product = (a % 257) as u32 * b as u32;
+    let product = u32::from(a % 257) * u32::from(b);
     let low = (product % 65536) as u16;
     let high = (product / 65536) as u16;
     (low % 257 + high % 257) % 257
@@ -26,21 +27,14 @@ fn multiply(a: u16, b: u16) -> u16
 fn invert(a: u16) -> u16
     ensures { result ≡ (prime.inverse (symbol a)).0 }
 {
-    let mut result: u16 = 1;
-    let mut power = a % 257;
-    for _i in 0..8usize {
-        result = multiply(result, power);
-        power = multiply(power, power);
-    }
-    result
+    product_of_squares(8, 1, a % 257, multiply)
 }
 
 // The byte that stands for a symbol: all but 256 have one.
 fn byte_of(a: u16) -> Option<u8>
     ensures { MatchOption result ((b : ℕ) → b < 256 → prime.byte b ≢ symbol a) (λ b. (b < 256) × (prime.byte b ≡ symbol a)) }
 {
-    let r = a % 257;
-    if r < 256 { Some(r as u8) } else { None }
+    u8::try_from(a % 257).ok()
 }
 
 impl Field for Prime {
@@ -50,6 +44,10 @@ impl Field for Prime {
 
     const WIDTH: usize = 2;
 
+    ghost SIZE = { 257 };
+
+    ghost WIDTH = { 2 };
+
     ghost elements = { Below 257 };
 
     ghost model = { prime };
@@ -58,19 +56,15 @@ impl Field for Prime {
 
     ghost sym = { λ e. e.0 };
 
+    ghost sized = { refl };
+
+    ghost wide = { refl };
+
     ghost lawful = { laws.lawful };
 
     ghost recovers = { λ e. modulo-below 257 (lit< tt) e };
 
     ghost small = { Prim.search rules };
-
-    fn symbols() -> usize {
-        Self::SIZE
-    }
-
-    fn stored_width() -> usize {
-        Self::WIDTH
-    }
 
     fn zero() -> u16 {
         0
@@ -96,33 +90,29 @@ impl Field for Prime {
         invert(a)
     }
 
+    // `as`, since the test says that the number fits: `try_from` would bring an arm that cannot come.
     fn point(j: usize) -> Option<u16> {
-        if j < 32 { Some(j as u16) } else { None }
+        (j < 32).then(|| j as u16)
     }
 
     fn from_byte(b: u8) -> u16 {
-        b as u16
+        u16::from(b)
     }
 
     fn to_byte(a: u16) -> Option<u8> {
         byte_of(a)
     }
 
+    // No one function with the other field's: the patterns and the limits differ, and nothing else is there.
     fn read(bytes: &[u8]) -> Option<u16> {
-        if bytes.len() != Self::WIDTH {
+        let &[low, high] = bytes else {
             return None;
-        }
-        let v = bytes[0] as u16 + bytes[1] as u16 * 256;
-        if v < 257 { Some(v) } else { None }
+        };
+        let number = u16::from_le_bytes([low, high]);
+        (number < 257).then_some(number)
     }
 
-    fn write(out: &mut [u8], a: u16) -> bool {
-        if out.len() < Self::WIDTH {
-            return false;
-        }
-        let r = a % 257;
-        out[0] = (r % 256) as u8;
-        out[1] = (r / 256) as u8;
-        true
+    fn write(out: &mut [u8], a: u16) -> Result<(), TooShort> {
+        write_front(out, (a % 257).to_le_bytes())
     }
 }

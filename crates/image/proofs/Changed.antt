@@ -3,30 +3,32 @@ use Rattle.std.proofs.Common.{◌≡◌, ℕ, ◌*◌, ◌^◌, ◌<◌, ◌≤�
 use Rattle.std.proofs.lemmas.List.{length-take}
 use Rattle.std.proofs.lemmas.List.FromFn.{length-map-range_with_len}
 use Rattle.std.proofs.lemmas.Bool.{cases_lt}
+use Rattle.std.specs.List.{position_or_len}
 use Rattle.refusal.specs.Grounds.{Clear}
 use Rattle.bank.specs.Meaning.{Sled, sled_at, held, PayloadLength}
 use Rattle.bank.specs.Calls.{put_grounds, blank_grounds, Added, Put, emptied, Blanked}
 use Rattle.image.specs.declared.layout.Layout.{Layout}
 use Rattle.image.specs.declared.layout.Layout.TheVariants.{Tray, Zone}
-use Rattle.image.specs.Places.{position, is_free}
+use Rattle.image.specs.Places.{is_free}
 use Rattle.image.specs.Layouts.{place_at, places, sled_of, sled_after_put, sled_after_blank}
 use Rattle.image.specs.Racks.{sleds_of, cells_of, sled_bytes, rack_of, after_put, after_blank}
-use Rattle.image.specs.Positions.{many_some}
+use Rattle.image.specs.Positions.{count_some}
 use Rattle.image.proofs.Filled.{length-put, put_added}
 use Rattle.image.proofs.Cleared.{length-freed_below, blanked_within, blank_empties}
-use Rattle.image.specs.Rows.{Shape, sled_sized, length-rack, rack_at, only_this, this_now, shape_same, mark_same}
+use Rattle.image.specs.Opening.{Shape}
+use Rattle.image.specs.Rows.{sled_whole, length-rack, rack_at, only_this, this_now, shape_same, mark_same}
 
 -- a sled with room has a free place
-place_left : (l : Layout) (C : ℕ) (bytes : List ℕ) → ((sled_of l C bytes).room ≡ 0 → ⊥) → position is_free (places l C bytes) < C
+place_left : (l : Layout) (C : ℕ) (bytes : List ℕ) → ((sled_of l C bytes).room ≡ 0 → ⊥) → position_or_len is_free (places l C bytes) < C
 place_left Tray C bytes room =
     let all = length-map-range_with_len (place_at Tray C bytes) 0 C in
-    let found = many_some is_free (places Tray C bytes) (omega (arith, room)) in
+    let found = count_some is_free (places Tray C bytes) (omega (arith, room)) in
     omega arith
 place_left Zone C bytes room =
     let all = length-map-range_with_len (place_at Zone C bytes) 0 C in
-    let some = length-take (position is_free (places Zone C bytes)) (places Zone C bytes) in
-    ⊎_elim (λ (lt : position is_free (places Zone C bytes) < C). lt) (λ (ge : C ≤ position is_free (places Zone C bytes)). absurd (room (omega arith)))
-    (cases_lt (position is_free (places Zone C bytes)) C)
+    let some = length-take (position_or_len is_free (places Zone C bytes)) (places Zone C bytes) in
+    ⊎_elim (λ (lt : position_or_len is_free (places Zone C bytes) < C). lt) (λ (ge : C ≤ position_or_len is_free (places Zone C bytes)). absurd (room (omega arith)))
+    (cases_lt (position_or_len is_free (places Zone C bytes)) C)
 
 none_of : {X : Type 0} (o : Option X) → (is_some o ≡ true → ⊥) → o ≡ None
 none_of None h = refl
@@ -53,7 +55,7 @@ module _ (l : Layout) (img : List ℕ) (ok : Shape img) (k : ℕ) where
     pub low : n < 32
     pub size : PayloadLength len
     pub absent : held (sled_of l (cells_of img) (sled_bytes (cells_of img) img k)) id n ≡ None
-    pub place : position is_free (places l (cells_of img) (sled_bytes (cells_of img) img k)) < cells_of img
+    pub place : position_or_len is_free (places l (cells_of img) (sled_bytes (cells_of img) img k)) < cells_of img
 
   pub allowed : (id n len : ℕ) → Clear (put_grounds (rack_of l img) k id n len) → Allowed id n len
   allowed id n len (sleds, (number, (size, (present, (room, _))))) =
@@ -72,10 +74,10 @@ module _ (l : Layout) (img : List ℕ) (ok : Shape img) (k : ℕ) where
     new = sled_after_put l C id n payload bytes
 
     whole : length bytes ≡ C * 1040
-    whole = (sled_sized l img ok k may.there).whole
+    whole = sled_whole l img ok k may.there
 
     long : length new ≡ C * 1040
-    long = length-put l C (position is_free (places l C bytes)) id n payload bytes whole may.place may.size.fits fits ∙ whole
+    long = length-put l C (position_or_len is_free (places l C bytes)) id n payload bytes whole may.place may.size.fits fits ∙ whole
 
     pub put_shape : Shape (after_put l k id n payload img)
     put_shape = shape_same l img ok k new may.there long
@@ -89,7 +91,7 @@ module _ (l : Layout) (img : List ℕ) (ok : Shape img) (k : ℕ) where
           only = only_this l img ok k new may.there long;
           added = subst (λ s. Added s (sled_at (rack_of l (after_put l k id n payload img)) k) id n payload) (sym (rack_at l img ok k may.there))
               (subst (λ s. Added (sled_of l C bytes) s id n payload) (sym (this_now l img ok k new may.there long))
-              (put_added l C (position is_free (places l C bytes)) id n payload bytes whole refl may.place may.size.some may.size.fits may.low fits may.absent));
+              (put_added l C (position_or_len is_free (places l C bytes)) id n payload bytes whole refl may.place may.size.some may.size.fits may.low fits may.absent));
         }
 
   -- a sled that there is
@@ -103,7 +105,7 @@ module _ (l : Layout) (img : List ℕ) (ok : Shape img) (k : ℕ) where
 
     cleared-long : length cleared ≡ C * 1040
     cleared-long =
-        let w = (sled_sized l img ok k there).whole in
+        let w = sled_whole l img ok k there in
         length-freed_below l C bytes w _ (blanked_within l C ok.some_cells) ∙ w
 
     pub blank_shape : Shape (after_blank l k img)
@@ -117,6 +119,6 @@ module _ (l : Layout) (img : List ℕ) (ok : Shape img) (k : ℕ) where
         record {
           only = only_this l img ok k cleared there cleared-long;
           empty = this_now l img ok k cleared there cleared-long
-              ∙ blank_empties l C bytes (sled_sized l img ok k there).whole ok.some_cells
+              ∙ blank_empties l C bytes (sled_whole l img ok k there) ok.some_cells
               ∙ ap emptied (sym (rack_at l img ok k there));
         }

@@ -1,9 +1,10 @@
 -- A share put to the first free place of a sled: the sled has one share more. Assumes nothing.
 use Rattle.std.proofs.Common.{◌≡◌, ℕ, suc, ◌+◌, ◌-◌, ◌*◌, ◌^◌, ◌<◌, ◌≤◌, Bool, true, false, cond, ◌&&◌, ltb, List, [], ◌∷◌, ◌++◌, map, reverse, length, get_or, take, drop, set, Some, None, sym, refl, ap, ◌∙◌, subst, ⊎_elim, arith}
 use lib.Seq.{split_at}
-use Rattle.std.specs.List.{between, range_with_len}
+use Rattle.std.specs.List.{between, range_with_len, count_by, position_or_len, fold}
 use Rattle.std.proofs.lemmas.List.{same_lists, take_at, reverse-append, length-set, set_split, get_or-set_same, get_or-set_other}
-use Rattle.std.proofs.lemmas.Nat.{mod_below}
+use Rattle.std.proofs.lemmas.List.Sums.{sum_by-cons, sum_by-append, passes_at_first, fails_before_first}
+use Rattle.std.proofs.lemmas.Nat.{mod_below, from_le_bytes-to_le_bytes_2, from_le_bytes-to_le_bytes_4, from_le_bytes-to_le_bytes_8}
 use Rattle.std.proofs.lemmas.List.FromFn.{length-map-range_with_len, get_or-map-range_with_len, take-map-range_with_len, map-range_with_len_more}
 use Rattle.std.proofs.lemmas.Bool.{cases_eq, cond-true, cond-false, lt-ltb}
 use Rattle.std.proofs.lemmas.Bool.Decides.{nat_tests}
@@ -11,21 +12,20 @@ use Rattle.bank.specs.Meaning.{Sled, held, lookup}
 use Rattle.bank.specs.Calls.{Added}
 use Rattle.image.specs.declared.layout.Layout.{Layout}
 use Rattle.image.specs.declared.layout.Layout.TheVariants.{Tray, Zone}
-use Rattle.image.specs.Fnv.{fnv, fnv_from, step}
-use Rattle.image.specs.Places.{Place, place_of, entry_of, is_free, is_sound, payload_of, shares_of, position, many}
+use Rattle.image.specs.Fnv.{fnv, step}
+use Rattle.image.specs.Places.{Place, place_of, entry_of, is_free, is_sound, payload_of, shares_of}
 use Rattle.image.specs.Layouts.{cell_at, place_at, places, log, seen, sled_of, freed, written, frees_next, put_at}
-use Rattle.image.proofs.Numbers.{number_back}
-use Rattle.image.specs.Positions.{position_passes, position_before, position_is, many-append}
+use Rattle.image.specs.Positions.{position_is}
 use Rattle.image.specs.Gathered.{pick, lookup-places, skip_free, new_here, new_others, new_count, used}
 use Rattle.image.specs.Laid.{length-freed, freed_here, freed_other, length-written, written_here, written_other}
 
-fnv_from-below : (hash : ℕ) (bytes : List ℕ) → hash < 2 ^ 64 → fnv_from hash bytes < 2 ^ 64
-fnv_from-below hash [] h = h
-fnv_from-below hash (b ∷ bs) h = fnv_from-below (step hash b) bs (mod_below _ (2 ^ 64) (omega arith))
+steps-below : (hash : ℕ) (bytes : List ℕ) → hash < 2 ^ 64 → fold step hash bytes < 2 ^ 64
+steps-below hash [] h = h
+steps-below hash (b ∷ bs) h = steps-below (step hash b) bs (mod_below _ (2 ^ 64) (omega arith))
 
 fnv-below : (bytes : List ℕ) → fnv bytes < 2 ^ 64
 unfolding fnv
-fnv-below bytes = fnv_from-below 0xCBF29CE484222325 bytes (omega arith)
+fnv-below bytes = steps-below 0xCBF29CE484222325 bytes (omega arith)
 
 -- the place of a share: what its entry says, and a cell that begins with its payload
 abbrev new_place : ℕ → ℕ → List ℕ → List ℕ → Place
@@ -35,9 +35,9 @@ new_place id n payload cell =
 place_new : (id n : ℕ) (payload cell : List ℕ) → length payload ≤ 1024 → id < 2 ^ 32
     → place_of (entry_of id n payload) (payload ++ drop (length payload) cell) ≡ new_place id n payload cell
 place_new id n payload cell short fits =
-    let a = number_back 2 (length payload) (omega arith) in
-    let b = number_back 4 id fits in
-    let d = number_back 8 (fnv payload) (fnv-below payload) in
+    let a = from_le_bytes-to_le_bytes_2 (length payload) (omega arith) in
+    let b = from_le_bytes-to_le_bytes_4 id fits in
+    let d = from_le_bytes-to_le_bytes_8 (fnv payload) (fnv-below payload) in
     cc
 
 new_sound : (id n : ℕ) (payload cell : List ℕ) → 1 ≤ length payload → length payload ≤ 1024 → n < 32
@@ -86,12 +86,12 @@ module _ (ps : List Place) (e : ℕ) (new : Place) (within : e < length ps) (was
         is = set_split ps e new within;
       }
 
-  set_room : many is_free (set ps e new) + 1 ≡ many is_free ps
+  set_room : count_by is_free (set ps e new) + 1 ≡ count_by is_free ps
   set_room =
-      let a = ap (many is_free) (set_split ps e new within) ∙ many-append is_free front (new ∷ back) in
-      let b = ap (many is_free) (split_at ps e new within) ∙ many-append is_free front (get_or ps e new ∷ back) in
-      let c : many is_free (new ∷ back) ≡ 0 + many is_free back = ap (λ b. cond b 1 0 + many is_free back) (used new sound) in
-      let d : many is_free (get_or ps e new ∷ back) ≡ 1 + many is_free back = ap (λ b. cond b 1 0 + many is_free back) was_free in
+      let a = ap (count_by is_free) (set_split ps e new within) ∙ sum_by-append (λ p. cond (is_free p) 1 0) front (new ∷ back) in
+      let b = ap (count_by is_free) (split_at ps e new within) ∙ sum_by-append (λ p. cond (is_free p) 1 0) front (get_or ps e new ∷ back) in
+      let c : count_by is_free (new ∷ back) ≡ 0 + count_by is_free back = sum_by-cons (λ p. cond (is_free p) 1 0) new back ∙ ap (λ b. cond b 1 0 + count_by is_free back) (used new sound) in
+      let d : count_by is_free (get_or ps e new ∷ back) ≡ 1 + count_by is_free back = sum_by-cons (λ p. cond (is_free p) 1 0) (get_or ps e new) back ∙ ap (λ b. cond b 1 0 + count_by is_free back) was_free in
       omega arith
 
 -- lists that are given by functions which agree
@@ -116,19 +116,19 @@ map-set f g C e within h =
     (cases_eq k e))
 
 -- the first n of C places that are given by a function, where the first free one is n
-log_is : (f : ℕ → Place) (C n : ℕ) → n ≤ C → n ≡ position is_free (map f (range_with_len 0 C)) → log (map f (range_with_len 0 C)) ≡ map f (range_with_len 0 n)
+log_is : (f : ℕ → Place) (C n : ℕ) → n ≤ C → n ≡ position_or_len is_free (map f (range_with_len 0 C)) → log (map f (range_with_len 0 C)) ≡ map f (range_with_len 0 n)
 log_is f C n le at = ap (λ m. take m (map f (range_with_len 0 C))) (sym at) ∙ take-map-range_with_len f 0 C n le
 
 -- a log that grows by one place
-module _ (f g : ℕ → Place) (C e : ℕ) (within : e < C) (at : e ≡ position is_free (map f (range_with_len 0 C))) (below : (k : ℕ) → k < e → g k ≡ f k) (sound : is_sound (g e) ≡ true) (next : e + 1 < C → is_free (g (e + 1)) ≡ true) where
-  log-end : e + 1 ≡ position is_free (map g (range_with_len 0 C))
+module _ (f g : ℕ → Place) (C e : ℕ) (within : e < C) (at : e ≡ position_or_len is_free (map f (range_with_len 0 C))) (below : (k : ℕ) → k < e → g k ≡ f k) (sound : is_sound (g e) ≡ true) (next : e + 1 < C → is_free (g (e + 1)) ≡ true) where
+  log-end : e + 1 ≡ position_or_len is_free (map g (range_with_len 0 C))
   log-end =
       position_is g C is_free (e + 1) (omega arith)
       (λ k lt.
       ⊎_elim (λ (q : k ≡ e). ap (λ j. is_free (g j)) q ∙ used (g e) sound)
       (λ (ne : k ≡ e → ⊥).
       ap is_free (below k (omega arith) ∙ sym (get_or-map-range_with_len f 0 C k k (f 0) (omega arith) (omega arith)))
-      ∙ position_before is_free (map f (range_with_len 0 C)) k (f 0) (omega arith))
+      ∙ fails_before_first is_free (map f (range_with_len 0 C)) k (f 0) (omega arith))
       (cases_eq k e))
       next
 
@@ -220,7 +220,7 @@ module _ (l : Layout) (C e id n : ℕ) (payload bytes : List ℕ) (whole : lengt
       ap (λ bs. is_free (place_at l C bs (e + 1))) (freed-next true h) ∙ freed_here l C base base-whole (e + 1) lt
 
 -- a put to the first free place adds the share
-pub put_added : (l : Layout) (C e id n : ℕ) (payload bytes : List ℕ) → length bytes ≡ C * 1040 → e ≡ position is_free (places l C bytes) → e < C
+pub put_added : (l : Layout) (C e id n : ℕ) (payload bytes : List ℕ) → length bytes ≡ C * 1040 → e ≡ position_or_len is_free (places l C bytes) → e < C
     → 1 ≤ length payload → length payload ≤ 1024 → n < 32 → id < 2 ^ 32 → held (sled_of l C bytes) id n ≡ None
     → Added (sled_of l C bytes) (sled_of l C (put_at l C e id n payload bytes)) id n payload
 put_added Tray C e id n payload bytes whole at within some short low fits absent =
@@ -233,10 +233,10 @@ put_added Tray C e id n payload bytes whole at within some short low fits absent
     let is : places Tray C bytes' ≡ set ps e new =
     map-set (place_at Tray C bytes) (place_at Tray C bytes') C e within (λ k lt ne. written_other Tray C bytes whole e id n payload within short k lt ne)
     ∙ ap (set ps e) (base-here Tray C e id n payload bytes whole within short fits) in
-    let free : is_free (get_or ps e new) ≡ true = ap (λ k. is_free (get_or ps k new)) at ∙ position_passes is_free ps new (omega arith) in
+    let free : is_free (get_or ps e new) ≡ true = ap (λ k. is_free (get_or ps k new)) at ∙ passes_at_first is_free ps new (omega arith) in
     gains ps (places Tray C bytes') new (sled_of Tray C bytes) (sled_of Tray C bytes') payload refl refl
     (subst (λ qs. ComesIn ps qs new) (sym is) (set-comes-in ps e new (omega arith) free ok.1))
-    ok.0 ok.1 absent (ap (λ qs. many is_free qs + 1) is ∙ set_room ps e new (omega arith) free ok.1) refl
+    ok.0 ok.1 absent (ap (λ qs. count_by is_free qs + 1) is ∙ set_room ps e new (omega arith) free ok.1) refl
 put_added Zone C e id n payload bytes whole at within some short low fits absent =
     let cell = between (cell_at Zone C e) (cell_at Zone C e + 1024) bytes in
     let new = new_place id n payload cell in

@@ -1,4 +1,3 @@
-pub mod Numbers
 pub mod Scanned
 pub mod Filled
 pub mod Cleared

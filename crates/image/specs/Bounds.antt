@@ -1,7 +1,8 @@
 -- What the bytes of a sled mean keeps the bounds of a sled. Only proofs, for a law: no contract cites it. Assumes nothing.
 use Rattle.std.specs.Prelude.{◌≡◌, ℕ, zero, suc, ◌+◌, ◌-◌, ◌*◌, ◌^◌, ◌<◌, ◌≤◌, List, [], ◌∷◌, reverse, length, drop, slice_index}
 use Rattle.std.proofs.Common.{sym, subst, ◌∙◌, arith}
-use Rattle.std.specs.List.{between, AllByRecursion}
+use Rattle.std.specs.Int.{w32, from_le_bytes}
+use Rattle.std.specs.List.{between, AllByRecursion, position_or_len}
 use Rattle.std.proofs.lemmas.List.{length-reverse, get_or-reverse, length-take}
 use Rattle.std.proofs.lemmas.List.Edits.{length-between}
 use Rattle.std.proofs.ByRecursion.{All-from_get_or, All-get_or, All-take, All-drop}
@@ -9,7 +10,7 @@ use Rattle.std.proofs.lemmas.List.FromFn.{length-map-range_with_len, get_or-map-
 use Rattle.bank.specs.Meaning.{SoundSled}
 use Rattle.image.specs.declared.layout.Layout.{Layout}
 use Rattle.image.specs.declared.layout.Layout.TheVariants.{Tray, Zone}
-use Rattle.image.specs.Places.{Place, low_first, shares_of, position, is_free}
+use Rattle.image.specs.Places.{Place, shares_of, is_free}
 use Rattle.image.specs.Layouts.{entry_at, cell_at, place_at, places, log, seen, room_of, sled_of}
 use Rattle.image.specs.Gathered.{Typed, few_with_places, distinct_with_places, all_with_places}
 use Rattle.image.specs.Laid.{cell_fits}
@@ -23,12 +24,12 @@ byte_at (x ∷ xs) h zero = h.0
 byte_at (x ∷ xs) h (suc i) = byte_at xs h.1 i
 
 -- a number in four bytes has 32 bits
-four_fit : (xs : List ℕ) (i : ℕ) → AllByRecursion Byte xs → low_first 4 xs i < 2 ^ 32
-four_fit xs i h =
-    let a = byte_at xs h i in
-    let b = byte_at xs h (i + 1) in
-    let c = byte_at xs h (i + 1 + 1) in
-    let d = byte_at xs h (i + 1 + 1 + 1) in
+four_fit : (xs : List ℕ) → AllByRecursion Byte xs → from_le_bytes w32 xs < 2 ^ 32
+four_fit xs h =
+    let a = byte_at xs h 0 in
+    let b = byte_at xs h 1 in
+    let c = byte_at xs h 2 in
+    let d = byte_at xs h 3 in
     omega arith
 
 all_between : (i j : ℕ) (xs : List ℕ) → AllByRecursion Byte xs → AllByRecursion Byte (between i j xs)
@@ -38,7 +39,7 @@ typed_at : (l : Layout) (C : ℕ) (bytes : List ℕ) → length bytes ≡ C * 10
 typed_at l C bytes whole h e lt =
     let f = cell_fits l C e lt in
     record {
-      id_fits = four_fit (between (entry_at l C e) (entry_at l C e + 16) bytes) 4 (all_between (entry_at l C e) (entry_at l C e + 16) bytes h);
+      id_fits = four_fit _ (all_between 4 8 (between (entry_at l C e) (entry_at l C e + 16) bytes) (all_between (entry_at l C e) (entry_at l C e + 16) bytes h));
       long = length-between bytes (cell_at l C e) (cell_at l C e + 1024) (omega arith) ∙ (let m : cell_at l C e + 1024 - cell_at l C e ≡ 1024 = omega arith in m);
       bytes = all_between (cell_at l C e) (cell_at l C e + 1024) bytes h;
     }
@@ -57,7 +58,7 @@ all_reverse P ps d h =
 -- those that are seen are among the places
 all_seen : (l : Layout) (ps : List Place) (d : Place) → AllByRecursion Typed ps → AllByRecursion Typed (seen l ps)
 all_seen Tray ps d h = h
-all_seen Zone ps d h = all_reverse Typed (log ps) d (All-take Typed (position is_free ps) ps h)
+all_seen Zone ps d h = all_reverse Typed (log ps) d (All-take Typed (position_or_len is_free ps) ps h)
 
 -- room and count together are at most the number of places
 few : (l : Layout) (ps : List Place) → room_of l ps + length (shares_of (seen l ps)) ≤ length ps
@@ -65,7 +66,7 @@ few Tray ps = let f = few_with_places [] ps in omega arith
 few Zone ps =
     let f = few_with_places [] (reverse (log ps)) in
     let r = length-reverse (log ps) in
-    let t = length-take (position is_free ps) ps in
+    let t = length-take (position_or_len is_free ps) ps in
     omega arith
 
 pub sled_bounds : (l : Layout) (C : ℕ) (bytes : List ℕ) → length bytes ≡ C * 1040 → C ≤ 64 → AllByRecursion Byte bytes → SoundSled (sled_of l C bytes)

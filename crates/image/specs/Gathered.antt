@@ -1,16 +1,17 @@
 -- The shares that a list of places holds. Only proofs, for a law: no contract cites it. Assumes nothing.
 use Rattle.std.specs.Prelude.{◌≡◌, ℕ, suc, ◌+◌, ◌^◌, ◌<◌, ◌≤◌, min, Bool, true, false, cond, not, ◌&&◌, ltb, List, [], ◌∷◌, ◌++◌, map, length, take, is_some, Some, None, Option, ◌==◌, nat_lt, slice_index_or, refl}
-use Rattle.std.proofs.Common.{sym, ap, ◌∙◌, ⊎_elim, arith}
-use Rattle.std.specs.List.{range_with_len, AllByRecursion}
+use Rattle.std.proofs.Common.{sym, ap, subst, ◌∙◌, ⊎_elim, arith}
+use Rattle.std.specs.List.{range_with_len, AllByRecursion, count_by, position_or_len}
 use Rattle.std.proofs.lemmas.List.FromFn.{length-map-range_with_len, get_or-map-range_with_len}
 use Rattle.std.proofs.lemmas.Bool.{eqb-true, and_parts, both_ways, lt-ltb, le-ltb, cases_lt}
 use Rattle.std.proofs.lemmas.Bool.Decides.{nat_tests}
+use Rattle.std.proofs.lemmas.List.Sums.{sum_by-cons}
 use Rattle.std.proofs.lemmas.List.{length_push, length-take, take_more}
 use Rattle.image.specs.Positions.{position-take, position_upto}
 use Rattle.std.proofs.ByRecursion.{All-take, All-push}
 use Rattle.bank.specs.Meaning.{Share, lookup, keyed, Distinct, SoundShare}
 use Rattle.image.specs.Scans.{counts}
-use Rattle.image.specs.Places.{Place, position, many, with_places, with_place, is_sound, answers, is_free, share_of, payload_of}
+use Rattle.image.specs.Places.{Place, with_places, with_place, is_sound, answers, is_free, share_of, payload_of}
 
 -- the first of two that is there
 abbrev pub or_else : {X : Type 0} → Option X → Option X → Option X
@@ -91,32 +92,37 @@ distinct_with_places xs (s ∷ ss) d = distinct_with_places (with_place xs s) ss
 pub used : (s : Place) → is_sound s ≡ true → is_free s ≡ false
 used s e = grind (arith, nat_tests)
 
-pub few_with_places : (xs : List Share) (ss : List Place) → many is_free ss + length (with_places xs ss) ≤ length ss + length xs
+pub few_with_places : (xs : List Share) (ss : List Place) → count_by is_free ss + length (with_places xs ss) ≤ length ss + length xs
 few_with_places xs [] = omega arith
 few_with_places xs (s ∷ ss) = by_cases (is_sound s) refl (is_some (lookup xs s.id s.number)) refl (few_with_places (with_place xs s) ss)
   where
-    by_cases : (b : Bool) → is_sound s ≡ b → (o : Bool) → is_some (lookup xs s.id s.number) ≡ o → many is_free ss + length (with_places (with_place xs s) ss) ≤ length ss + length (with_place xs s)
-        → many is_free (s ∷ ss) + length (with_places xs (s ∷ ss)) ≤ length (s ∷ ss) + length xs
-    by_cases true eb true eo h = let e : length (with_place xs s) ≡ length xs = rw (eb, eo) in grind (arith, nat_tests)
-    by_cases true eb false eo h = let e : length (with_place xs s) ≡ length xs + 1 = rw (eb, eo) (length_push xs (share_of s)) in let f = used s eb in grind (arith, nat_tests)
-    by_cases false eb o eo h = let e : length (with_place xs s) ≡ length xs = rw eb in grind (arith, nat_tests)
+    free_first : count_by is_free (s ∷ ss) ≡ cond (is_free s) 1 0 + count_by is_free ss
+    free_first = sum_by-cons (λ p. cond (is_free p) 1 0) s ss
+
+    by_cases : (b : Bool) → is_sound s ≡ b → (o : Bool) → is_some (lookup xs s.id s.number) ≡ o → count_by is_free ss + length (with_places (with_place xs s) ss) ≤ length ss + length (with_place xs s)
+        → count_by is_free (s ∷ ss) + length (with_places xs (s ∷ ss)) ≤ length (s ∷ ss) + length xs
+    by_cases true eb true eo h = let e : length (with_place xs s) ≡ length xs = rw (eb, eo) in rw free_first (grind (arith, nat_tests))
+    by_cases true eb false eo h = let e : length (with_place xs s) ≡ length xs + 1 = rw (eb, eo) (length_push xs (share_of s)) in let f = used s eb in rw free_first (grind (arith, nat_tests))
+    by_cases false eb o eo h = let e : length (with_place xs s) ≡ length xs = rw eb in rw free_first (grind (arith, nat_tests))
 
 -- the payload that is picked lies where the search ends
-pub pick_found : (i n : ℕ) (ss : List Place) (d : Place) → position (answers i n) ss < length ss → pick i n ss ≡ Some (payload_of (slice_index_or ss (position (answers i n) ss) d))
+pub pick_found : (i n : ℕ) (ss : List Place) (d : Place) → position_or_len (answers i n) ss < length ss → pick i n ss ≡ Some (payload_of (slice_index_or ss (position_or_len (answers i n) ss) d))
 pick_found i n [] d lt = absurd (omega arith)
 pick_found i n (s ∷ ss) d lt = by_cases (answers i n s) lt (pick_found i n ss d)
   where
-    by_cases : (b : Bool) → cond b 0 (suc (position (answers i n) ss)) < suc (length ss)
-        → (position (answers i n) ss < length ss → pick i n ss ≡ Some (payload_of (slice_index_or ss (position (answers i n) ss) d)))
-        → cond b (Some (payload_of s)) (pick i n ss) ≡ Some (payload_of (slice_index_or (s ∷ ss) (cond b 0 (suc (position (answers i n) ss))) d))
+    by_cases : (b : Bool) → cond (not b) (1 + position_or_len (answers i n) ss) 0 < suc (length ss)
+        → (position_or_len (answers i n) ss < length ss → pick i n ss ≡ Some (payload_of (slice_index_or ss (position_or_len (answers i n) ss) d)))
+        → cond b (Some (payload_of s)) (pick i n ss) ≡ Some (payload_of (slice_index_or (s ∷ ss) (cond (not b) (1 + position_or_len (answers i n) ss) 0) d))
     by_cases true l h = refl
-    by_cases false l h = h (omega arith)
+    by_cases false l h =
+        subst (λ k. pick i n ss ≡ Some (payload_of (slice_index_or (s ∷ ss) k d))) (let z : suc (position_or_len (answers i n) ss) ≡ 1 + position_or_len (answers i n) ss = omega arith in z)
+        (h (omega arith))
 
-pub pick_none : (i n : ℕ) (ss : List Place) → length ss ≤ position (answers i n) ss → pick i n ss ≡ None
+pub pick_none : (i n : ℕ) (ss : List Place) → length ss ≤ position_or_len (answers i n) ss → pick i n ss ≡ None
 pick_none i n [] le = refl
 pick_none i n (s ∷ ss) le = by_cases (answers i n s) le (pick_none i n ss)
   where
-    by_cases : (b : Bool) → suc (length ss) ≤ cond b 0 (suc (position (answers i n) ss)) → (length ss ≤ position (answers i n) ss → pick i n ss ≡ None)
+    by_cases : (b : Bool) → suc (length ss) ≤ cond (not b) (1 + position_or_len (answers i n) ss) 0 → (length ss ≤ position_or_len (answers i n) ss → pick i n ss ≡ None)
         → cond b (Some (payload_of s)) (pick i n ss) ≡ None
     by_cases true l h = absurd (omega arith)
     by_cases false l h = h (omega arith)
@@ -259,27 +265,27 @@ pub all_with_places : (xs : List Share) (ss : List Place) → AllByRecursion Typ
 all_with_places xs [] t h = h
 all_with_places xs (s ∷ ss) t h = all_with_places (with_place xs s) ss t.1 (all_add xs s t.0 h)
 
-some_pick : (i n : ℕ) (ss : List Place) (d : Place) → is_some (pick i n ss) ≡ nat_lt (position (answers i n) ss) (length ss)
+some_pick : (i n : ℕ) (ss : List Place) (d : Place) → is_some (pick i n ss) ≡ nat_lt (position_or_len (answers i n) ss) (length ss)
 some_pick i n ss d = ⊎_elim
-    (λ (lt : position (answers i n) ss < length ss). ap is_some (pick_found i n ss d lt) ∙ sym (lt-ltb _ _ lt))
-    (λ (le : length ss ≤ position (answers i n) ss). ap is_some (pick_none i n ss le) ∙ sym (le-ltb _ _ le))
-    (cases_lt (position (answers i n) ss) (length ss))
+    (λ (lt : position_or_len (answers i n) ss < length ss). ap is_some (pick_found i n ss d lt) ∙ sym (lt-ltb _ _ lt))
+    (λ (le : length ss ≤ position_or_len (answers i n) ss). ap is_some (pick_none i n ss le) ∙ sym (le-ltb _ _ le))
+    (cases_lt (position_or_len (answers i n) ss) (length ss))
 
 -- a place is added where it is the first under its id and number
 counts_is : (ss : List Place) (e : ℕ) (s : Place) → e < length ss → slice_index_or ss e s ≡ s
     → (is_sound s && not (is_some (lookup (with_places [] (take e ss)) s.id s.number))) ≡ counts ss e s
 counts_is ss e s lt at = by_cases (is_sound s) refl
   where
-    a : is_some (lookup (with_places [] (take e ss)) s.id s.number) ≡ nat_lt (min e (position (answers s.id s.number) ss)) e
+    a : is_some (lookup (with_places [] (take e ss)) s.id s.number) ≡ nat_lt (min e (position_or_len (answers s.id s.number) ss)) e
     a = ap is_some (lookup-places (take e ss) s.id s.number) ∙ some_pick s.id s.number (take e ss) s
         ∙ ap (λ n. ltb n (length (take e ss))) (position-take (answers s.id s.number) e ss (omega arith))
-        ∙ ap (ltb (min e (position (answers s.id s.number) ss))) (length-take e ss ∙ (let z : min e (length ss) ≡ e = omega arith in z))
+        ∙ ap (ltb (min e (position_or_len (answers s.id s.number) ss))) (length-take e ss ∙ (let z : min e (length ss) ≡ e = omega arith in z))
 
     by_cases : (b : Bool) → is_sound s ≡ b → (is_sound s && not (is_some (lookup (with_places [] (take e ss)) s.id s.number))) ≡ counts ss e s
     by_cases true eb =
         let y : answers s.id s.number s ≡ true = rw eb (grind (arith, nat_tests)) in
-        let u = position_upto (answers s.id s.number) ss e s lt (ap (answers s.id s.number) at ∙ y) in
-        rw eb (ap not a ∙ upto (position (answers s.id s.number) ss) u)
+        let u = position_upto (answers s.id s.number) ss e s (ap (answers s.id s.number) at ∙ y) in
+        rw eb (ap not a ∙ upto (position_or_len (answers s.id s.number) ss) u)
       where
         upto : (p : ℕ) → p ≤ e → not (nat_lt (min e p) e) ≡ (p == e)
         upto p le = grind (arith, nat_tests)
@@ -292,9 +298,8 @@ with_places_more ss e s lt at =
     ∙ ap (λ b. length (with_places [] (take e ss)) + cond b 1 0) (counts_is ss e s lt at)
 
 -- one turn more of a list that is given by a function of the turn
-pub scan_step : (f : ℕ → Place) (n j : ℕ) (b : Bool) → j < n → b ≡ counts (map f (range_with_len 0 n)) j (f j)
-    → length (with_places [] (take (j + 1) (map f (range_with_len 0 n)))) ≡ length (with_places [] (take j (map f (range_with_len 0 n)))) + cond b 1 0
-scan_step f n j b lt is =
+pub scan_step : (f : ℕ → Place) (n j : ℕ) → j < n → length (with_places [] (take (j + 1) (map f (range_with_len 0 n))))
+    ≡ length (with_places [] (take j (map f (range_with_len 0 n)))) + cond (counts (map f (range_with_len 0 n)) j (f j)) 1 0
+scan_step f n j lt =
     let l = length-map-range_with_len f 0 n in
     with_places_more (map f (range_with_len 0 n)) j (f j) (omega arith) (get_or-map-range_with_len f 0 n j j (f j) lt (omega arith))
-    ∙ ap (λ b. length (with_places [] (take j (map f (range_with_len 0 n)))) + cond b 1 0) (sym is)

@@ -1,16 +1,10 @@
 -- How a sled of C places lies in C times 1,040 bytes, and how its places are used, in each of the two layouts. Assumes nothing.
-use Rattle.std.specs.Prelude.{◌≡◌, ℕ, zero, suc, ◌+◌, ◌-◌, ◌*◌, ◌≤◌, Bool, true, false, cond, ◌&&◌, List, [], ◌∷◌, ◌++◌, map, reverse, length, take, drop, codes, nat_lt}
-use Rattle.std.specs.List.{between, range_with_len}
+use Rattle.std.specs.Prelude.{ℕ, zero, suc, ◌+◌, ◌-◌, ◌*◌, Bool, true, false, cond, ◌&&◌, List, [], ◌∷◌, ◌++◌, map, reverse, length, take, drop, codes, nat_lt}
+use Rattle.std.specs.List.{between, range_with_len, count_by, position_or_len}
 use Rattle.bank.specs.Meaning.{Sled}
 use Rattle.image.specs.declared.layout.Layout.{Layout}
 use Rattle.image.specs.declared.layout.Layout.TheVariants.{Tray, Zone}
-use Rattle.image.specs.Places.{Place, place_of, entry_of, is_free, shares_of, position, many}
-
--- the bytes of a sled of 1 to 64 places
-pub record SledSized (C : ℕ) (bytes : List ℕ) : Type 0 where
-  pub some : 1 ≤ C
-  pub few : C ≤ 64
-  pub whole : length bytes ≡ C * 1040
+use Rattle.image.specs.Places.{Place, place_of, entry_of, is_free, shares_of}
 
 -- the four bytes that an image begins with
 abbrev pub mark : Layout → List ℕ
@@ -38,7 +32,7 @@ places l C bytes = map (place_at l C bytes) (range_with_len 0 C)
 
 -- the log of a zone: the places before the first free one
 abbrev pub log : List Place → List Place
-log ps = take (position is_free ps) ps
+log ps = take (position_or_len is_free ps) ps
 
 -- the places that are seen, those that count before others first: in a tray all of them, the lowest first; in a zone those of the log, the
 -- latest first
@@ -48,7 +42,7 @@ seen Zone ps = reverse (log ps)
 
 -- the room: in a tray the number of free places, in a zone that of the places that are not in the log
 abbrev pub room_of : Layout → List Place → ℕ
-room_of Tray ps = many is_free ps
+room_of Tray ps = count_by is_free ps
 room_of Zone ps = length ps - length (log ps)
 
 -- what the bytes of a sled of C places mean
@@ -84,7 +78,7 @@ put_at l C e id n payload bytes =
 
 -- the bytes of a sled after a put: the share is put to the first free place, which in a zone is where the log ends
 abbrev pub sled_after_put : (l : Layout) (C id n : ℕ) (payload bytes : List ℕ) → List ℕ
-sled_after_put l C id n payload bytes = put_at l C (position is_free (places l C bytes)) id n payload bytes
+sled_after_put l C id n payload bytes = put_at l C (position_or_len is_free (places l C bytes)) id n payload bytes
 
 -- how many states a blank sets to 0: in a tray all of them, in a zone the first
 abbrev pub blanked_places : Layout → (C : ℕ) → ℕ

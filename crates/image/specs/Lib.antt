@@ -4,6 +4,7 @@ pub mod Layouts
 pub mod Racks
 pub mod Opening
 pub mod Scans
+pub mod Sleds
 pub mod Images
 pub mod Opened
 pub mod Rows

@@ -7,6 +7,15 @@ use Rattle.image.specs.declared.layout.Layout.{Layout}
 use Rattle.image.specs.Layouts.{mark}
 use Rattle.image.specs.Racks.{sleds_of, cells_of}
 
+-- what is known of the header and of the length of an open image
+pub record Shape (img : List ℕ) : Type 0 where
+  pub some_sleds : 1 ≤ sleds_of img
+  pub few_sleds : sleds_of img ≤ 32
+  pub some_cells : 1 ≤ cells_of img
+  pub few_cells : cells_of img ≤ 64
+  pub zeros : (slice_index img 6 ≡ 0) × (slice_index img 7 ≡ 0)
+  pub whole : length img ≡ 8 + sleds_of img * (cells_of img * 1040)
+
 -- a bad image, told by the layer image with this detail
 abbrev pub by_image : ℕ → Refusal
 by_image detail = refusal 18 (layer_number Image) detail

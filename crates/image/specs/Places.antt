@@ -1,17 +1,9 @@
 -- The places of a sled in an image, an entry of 16 bytes and a cell of 1,024 bytes each, and the shares that they hold. Assumes nothing.
-use Rattle.std.specs.Prelude.{ℕ, zero, suc, ◌+◌, ◌*◌, ◌/◌, ◌%◌, Bool, cond, not, ◌&&◌, List, [], ◌∷◌, ◌++◌, length, take, is_some, ◌==◌, nat_le, nat_lt, slice_index}
+use Rattle.std.specs.Prelude.{ℕ, Bool, cond, not, ◌&&◌, List, [], ◌∷◌, ◌++◌, length, take, is_some, ◌==◌, nat_le, nat_lt, slice_index}
+use Rattle.std.specs.List.{between}
+use Rattle.std.specs.Int.{w16, w32, w64, from_le_bytes, to_le_bytes}
 use Rattle.bank.specs.Meaning.{Share, lookup}
 use Rattle.image.specs.Fnv.{fnv}
-
--- the number in the w bytes from i on, low bytes first
-abbrev pub low_first : (w : ℕ) (bytes : List ℕ) (i : ℕ) → ℕ
-low_first zero bytes i = 0
-low_first (suc w) bytes i = slice_index bytes i + low_first w bytes (i + 1) * 256
-
--- a number in w bytes, low bytes first
-abbrev pub low_bytes : (w v : ℕ) → List ℕ
-low_bytes zero v = []
-low_bytes (suc w) v = v % 256 ∷ low_bytes w (v / 256)
 
 -- a place: what its entry says, and the bytes of its cell
 pub record Place : Type 0 where
@@ -23,14 +15,21 @@ pub record Place : Type 0 where
   pub cell : List ℕ
 
 -- the place with this entry and this cell: an entry is the state, the share number, the payload's length in two bytes, the id in four, and
--- the check in eight
+-- the check in eight, each with its low byte first
 abbrev pub place_of : (entry cell : List ℕ) → Place
 place_of entry cell =
-    record { state = slice_index entry 0; number = slice_index entry 1; len = low_first 2 entry 2; id = low_first 4 entry 4; check = low_first 8 entry 8; cell = cell }
+    record {
+      state = slice_index entry 0;
+      number = slice_index entry 1;
+      len = from_le_bytes w16 (between 2 4 entry);
+      id = from_le_bytes w32 (between 4 8 entry);
+      check = from_le_bytes w64 (between 8 16 entry);
+      cell = cell;
+    }
 
 -- the entry of share n of a file, as a put writes it
 abbrev pub entry_of : (id n : ℕ) (payload : List ℕ) → List ℕ
-entry_of id n payload = 1 ∷ n ∷ (low_bytes 2 (length payload) ++ (low_bytes 4 id ++ low_bytes 8 (fnv payload)))
+entry_of id n payload = 1 ∷ n ∷ (to_le_bytes w16 (length payload) ++ (to_le_bytes w32 id ++ to_le_bytes w64 (fnv payload)))
 
 -- whether a place is free: its state is 0
 abbrev pub is_free : Place → Bool
@@ -65,13 +64,3 @@ with_places xs (p ∷ ps) = with_places (with_place xs p) ps
 -- the shares that these places hold: of two sound places with the same id and number, the first counts
 abbrev pub shares_of : List Place → List Share
 shares_of ps = with_places [] ps
-
--- the first place that passes a test, or how many places there are
-abbrev pub position : (Place → Bool) → List Place → ℕ
-position test [] = 0
-position test (p ∷ ps) = cond (test p) 0 (suc (position test ps))
-
--- how many places pass a test
-abbrev pub many : (Place → Bool) → List Place → ℕ
-many test [] = 0
-many test (p ∷ ps) = cond (test p) 1 0 + many test ps

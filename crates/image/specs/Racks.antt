@@ -3,7 +3,6 @@ use Rattle.std.specs.Prelude.{ℕ, ◌+◌, ◌*◌, List, map, slice_index}
 use Rattle.std.specs.List.{between, range_with_len}
 use Rattle.bank.specs.Meaning.{Rack}
 use Rattle.image.specs.declared.layout.Layout.{Layout}
-use Rattle.image.specs.declared.layout.Layout.TheVariants.{Tray, Zone}
 use Rattle.image.specs.Layouts.{sled_of, over, sled_after_put, sled_after_blank}
 
 -- the number of sleds
@@ -25,13 +24,6 @@ sled_bytes C img k = between (sled_start C k) (sled_start C k + C * 1040) img
 -- what the bytes of an image mean
 abbrev pub rack_of : (l : Layout) (img : List ℕ) → Rack
 rack_of l img = map (λ k. sled_of l (cells_of img) (sled_bytes (cells_of img) img k)) (range_with_len 0 (sleds_of img))
-
--- what the bytes of a tray mean, and what those of a zone
-abbrev pub tray_rack : List ℕ → Rack
-tray_rack img = rack_of Tray img
-
-abbrev pub zone_rack : List ℕ → Rack
-zone_rack img = rack_of Zone img
 
 -- the image with other bytes for sled k
 abbrev pub with_sled : (k : ℕ) (bytes img : List ℕ) → List ℕ

@@ -13,20 +13,11 @@ use Rattle.refusal.specs.Grounds.{Clear}
 use Rattle.bank.specs.Meaning.{Sled, sled_at, no_sled, SoundSled, Sound}
 use Rattle.bank.specs.Calls.{OnlyAt}
 use Rattle.image.specs.declared.layout.Layout.{Layout}
-use Rattle.image.specs.Layouts.{SledSized, sled_of, mark}
+use Rattle.image.specs.Layouts.{sled_of, mark}
 use Rattle.image.specs.Racks.{sleds_of, cells_of, sled_start, sled_bytes, rack_of, with_sled}
-use Rattle.image.specs.Opening.{open_grounds}
+use Rattle.image.specs.Opening.{Shape, open_grounds}
 use Rattle.image.specs.Overwrites.{length_over, get_or-over_below, between_over_below, between_over_above, between_over_all}
 use Rattle.image.specs.Bounds.{sled_bounds}
-
--- what is known of the header and of the length of an open image
-pub record Shape (img : List ℕ) : Type 0 where
-  pub some_sleds : 1 ≤ sleds_of img
-  pub few_sleds : sleds_of img ≤ 32
-  pub some_cells : 1 ≤ cells_of img
-  pub few_cells : cells_of img ≤ 64
-  pub zeros : (slice_index img 6 ≡ 0) × (slice_index img 7 ≡ 0)
-  pub whole : length img ≡ 8 + sleds_of img * (cells_of img * 1040)
 
 -- a number that is not out of its bounds is within them
 within : (a b n : ℕ) → (((a ≤ n) × (n ≤ b) → ⊥) → ⊥) → (a ≤ n) × (n ≤ b)
@@ -68,25 +59,6 @@ opens l img m ok = (
   (λ ne. ne m, (λ ne. ne (ok.some_sleds, ok.few_sleds), (λ ne. ne (ok.some_cells, ok.few_cells), (λ ne. ne ok.zeros, (λ ne. ne ok.whole, tt))))),
 )
 
--- the facts that an open image keeps
-abbrev pub Kept : List ℕ → Type 0
-Kept img = record {
-  sleds : (1 ≤ sleds_of img) × (sleds_of img ≤ 32);
-  cells : (1 ≤ cells_of img) × (cells_of img ≤ 64);
-  zeros : (slice_index img 6 ≡ 0) × (slice_index img 7 ≡ 0);
-  whole : length img ≡ 8 + sleds_of img * (cells_of img * 1040);
-  typed : (k : ℕ) → slice_index img k < 256;
-}
-
-pub kept : (img : List ℕ) → Shape img → ((k : ℕ) → slice_index img k < 256) → Kept img
-kept img ok typed = record {
-  sleds = (ok.some_sleds, ok.few_sleds);
-  cells = (ok.some_cells, ok.few_cells);
-  zeros = ok.zeros;
-  whole = ok.whole;
-  typed = typed;
-}
-
 -- rows of z bytes, one after another
 row_end : (j k z : ℕ) → j < k → j * z + z ≤ k * z
 row_end j k z lt = let h : (j + 1) * z ≤ k * z = mul-le-mul_right z (omega arith) in omega (arith, add-mul j 1 z)
@@ -95,22 +67,15 @@ module _ (l : Layout) (img : List ℕ) (ok : Shape img) where
   pub sled_fits : (k : ℕ) → k < sleds_of img → sled_start (cells_of img) k + cells_of img * 1040 ≤ length img
   sled_fits k lt = omega (arith, ok.whole, row_end k (sleds_of img) (cells_of img * 1040) lt)
 
-  pub sled_within : (C k : ℕ) (bytes : List ℕ) → C ≡ cells_of img → bytes ≡ img → k < sleds_of img → 8 + k * (C * 1040) + C * 1040 ≤ length bytes
+  pub sled_within : (C k : ℕ) (bytes : List ℕ) → C ≡ cells_of img → bytes ≡ img → k < sleds_of img → sled_start C k + C * 1040 ≤ length bytes
   sled_within C k bytes e same lt =
-      subst (λ n. 8 + k * (C * 1040) + C * 1040 ≤ n) (ap length (sym same)) (subst (λ c. 8 + k * (c * 1040) + c * 1040 ≤ length img) (sym e) (sled_fits k lt))
+      subst (λ n. sled_start C k + C * 1040 ≤ n) (ap length (sym same)) (subst (λ c. sled_start c k + c * 1040 ≤ length img) (sym e) (sled_fits k lt))
 
-  pub sled_sized : (k : ℕ) → k < sleds_of img → SledSized (cells_of img) (sled_bytes (cells_of img) img k)
-  sled_sized k lt =
+  pub sled_whole : (k : ℕ) → k < sleds_of img → length (sled_bytes (cells_of img) img k) ≡ cells_of img * 1040
+  sled_whole k lt =
       let f = sled_fits k lt in
-      record {
-        some = ok.some_cells;
-        few = ok.few_cells;
-        whole = length-between img (sled_start (cells_of img) k) (sled_start (cells_of img) k + cells_of img * 1040) f
-            ∙ (let e : sled_start (cells_of img) k + cells_of img * 1040 - sled_start (cells_of img) k ≡ cells_of img * 1040 = omega arith in e);
-      }
-
-  pub sized_within : (C k : ℕ) (bytes : List ℕ) → C ≡ cells_of img → bytes ≡ img → k < sleds_of img → SledSized C (sled_bytes C bytes k)
-  sized_within C k bytes e same lt = subst (λ c. SledSized c (sled_bytes c bytes k)) (sym e) (subst (λ xs. SledSized (cells_of img) (sled_bytes (cells_of img) xs k)) (sym same) (sled_sized k lt))
+      length-between img (sled_start (cells_of img) k) (sled_start (cells_of img) k + cells_of img * 1040) f
+      ∙ (let e : sled_start (cells_of img) k + cells_of img * 1040 - sled_start (cells_of img) k ≡ cells_of img * 1040 = omega arith in e)
 
   module _ where
     abbrev sled-number : ℕ → Sled
@@ -136,7 +101,7 @@ module _ (l : Layout) (img : List ℕ) (ok : Shape img) where
           sound_sleds = All-from_get_or SoundSled (rack_of l img) no_sled
               (λ k lt.
               subst SoundSled (sym (rack_at k (omega arith)))
-              (sled_bounds l (cells_of img) (sled_bytes (cells_of img) img k) (sled_sized k (omega arith)).whole ok.few_cells
+              (sled_bounds l (cells_of img) (sled_bytes (cells_of img) img k) (sled_whole k (omega arith)) ok.few_cells
               (All-take (λ b. b < 256) _ (drop (sled_start (cells_of img) k) img) (All-drop (λ b. b < 256) (sled_start (cells_of img) k) img bytes))));
         }
 

@@ -3,6 +3,7 @@ ghost use Rattle.std.specs.Prelude.{◌≡◌};
 ghost use Rattle.image.specs.Fnv.{fnv};
 
 // FNV-1a of the bytes: for each of them an exclusive or, then a product with the prime.
+// A loop: this form, over the bytes with a product that wraps, is a rule of the project.
 pub fn fnv1a(bytes: &[u8]) -> u64
     ensures { result ≡ fnv bytes.now }
 {

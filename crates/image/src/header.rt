@@ -5,7 +5,7 @@ ghost use Rattle.refusal.specs.Grounds.{Answers};
 ghost use Rattle.image.specs.Layouts.{mark};
 ghost use Rattle.image.specs.Opening.{open_grounds};
 
-use crate::layout::Layout;
+use crate::layout::{Format, Layout};
 use refusal::{Fault, Layer, Reason};
 
 // A refusal of the layer image.
@@ -19,46 +19,34 @@ fn refuse(detail: usize) -> Fault
     }
 }
 
-// The mark of a layout.
-fn mark_of(layout: Layout) -> [u8; 4]
-    ensures { result ≡ mark layout }
-{
-    match layout {
-        Layout::Tray => *b"TRAY",
-        Layout::Zone => *b"ZONE",
-    }
-}
-
 // Whether the image begins with the mark of this layout.
 fn is_marked(layout: Layout, image: &[u8]) -> bool
     ensures { Decides result (take 4 image.now ≡ mark layout) }
 {
-    image.starts_with(&mark_of(layout))
+    image.starts_with(&layout.mark())
 }
 
-// Whether an image of this layout can be opened.
-pub(crate) fn check_header(layout: Layout, image: &[u8]) -> Result<(), Fault>
-    ensures answers { Answers (open_grounds layout image.now) refusal_of result (λ _. Unit {0}) (λ _. Unit {0}) }
+// Whether an image of this format can be opened.
+pub(crate) fn check_header<F: Format>(image: &[u8]) -> Result<(), Fault>
+    ensures answers { Answers (open_grounds F.LAYOUT image.now) refusal_of result (λ _. Unit {0}) (λ _. Unit {0}) }
     ensures bytes { (k : ℕ) → slice_index image.now k < 256 }
 {
-    if image.len() < 8 {
+    let &[_, _, _, _, sleds, cells, six, seven, ..] = image else {
         return Err(refuse(8));
-    }
-    if !is_marked(layout, image) {
+    };
+    if !is_marked(F::LAYOUT, image) {
         return Err(refuse(0));
     }
-    let sleds = image[4] as usize;
     if sleds == 0 || sleds > 32 {
         return Err(refuse(4));
     }
-    let cells = image[5] as usize;
     if cells == 0 || cells > 64 {
         return Err(refuse(5));
     }
-    if image[6] != 0 || image[7] != 0 {
+    if six != 0 || seven != 0 {
         return Err(refuse(6));
     }
-    if image.len() != 8 + sleds * (cells * 1040) {
+    if image.len() != 8 + usize::from(sleds) * (usize::from(cells) * 1040) {
         return Err(refuse(8));
     }
     Ok(())

@@ -2,16 +2,13 @@
 #![tactic(auto)]
 
 pub mod check;
-mod contents;
-mod entry;
 mod header;
 mod image;
 mod layout;
+mod place;
+mod plan;
 mod sled;
-pub mod tray;
 mod writes;
-pub mod zone;
 
-pub use image::Unopened;
-pub use tray::Tray;
-pub use zone::Zone;
+pub use image::{Image, Tray, Unopened, Zone};
+pub use layout::{Format, Layout, TrayFormat, ZoneFormat};

@@ -1,185 +1,163 @@
-// The bytes of one sled: where its places lie, and how they are looked through.
-ghost use Rattle.std.specs.Prelude.{◌≡◌, ◌+◌, ◌*◌, ◌<◌, ◌≤◌, length};
-ghost use Rattle.std.specs.List.{between};
-ghost use Rattle.image.specs.Layouts.{SledSized, entry_at, cell_at, place_at, places};
-ghost use Rattle.image.specs.Places.{position, many, answers, is_free, shares_of};
-ghost use Rattle.image.specs.Scans.{seen_count, turn, scan, counts};
+// The bytes of one sled: its places, how they are looked through, and what they hold.
+ghost use Rattle.std.specs.Prelude.{◌≡◌, ◌-◌, ◌*◌, ◌<◌, ◌≤◌, length};
 
-use crate::entry;
 use crate::layout::Layout;
+use crate::place::Place;
+use crate::plan::Plan;
+use bank::Key;
 
-// Where the entry of a place begins.
-pub(crate) fn entry_at(layout: Layout, cells: usize, place: usize) -> usize
-    requires few { cells ≤ 64 }
-    requires within { place < cells }
-    ensures value { result ≡ entry_at layout cells place }
-    ensures fits { result + 16 ≤ cells * 1040 }
-{
-    match layout {
-        Layout::Tray => place * 16,
-        Layout::Zone => place * 1040,
-    }
+// One sled: how it is laid out, and its bytes.
+#[derive(Clone, Copy)]
+pub(crate) struct Sled<'a> {
+    pub(crate) plan: Plan,
+    pub(crate) bytes: &'a [u8],
+    ghost whole: { length bytes.now ≡ plan.cells * 1040 },
 }
 
-// Where the cell of a place begins.
-pub(crate) fn cell_at(layout: Layout, cells: usize, place: usize) -> usize
-    requires few { cells ≤ 64 }
-    requires within { place < cells }
-    ensures value { result ≡ cell_at layout cells place }
-    ensures fits { result + 1024 ≤ cells * 1040 }
-{
-    match layout {
-        Layout::Tray => cells * 16 + place * 1024,
-        Layout::Zone => place * 1040 + 16,
-    }
-}
+impl<'a> Sled<'a> {
+    ghost use Rattle.std.specs.Prelude.{count_by, position};
+    ghost use Rattle.std.specs.List.{position_or_len, range_with_len};
+    ghost use Rattle.std.specs.Option.{option_map};
+    ghost use Rattle.bank.specs.Meaning.{held, count};
+    ghost use Rattle.image.specs.Places.{is_free};
+    ghost use Rattle.image.specs.Sleds.{read, place_in, places_in, seen_in, free_in, meaning_of};
 
-// The entry of a place.
-pub(crate) fn entry_of(layout: Layout, bytes: &[u8], cells: usize, place: usize) -> &[u8]
-    requires sized { SledSized cells bytes.now }
-    requires within { place < cells }
-    ensures value { result.now ≡ between (entry_at layout cells place) (entry_at layout cells place + 16) bytes.now }
-    ensures len { length result.now ≡ 16 }
-{
-    let at = entry_at(layout, cells, place);
-    &bytes[at..at + 16]
-}
-
-// The cell of a place.
-pub(crate) fn cell_of(layout: Layout, bytes: &[u8], cells: usize, place: usize) -> &[u8]
-    requires sized { SledSized cells bytes.now }
-    requires within { place < cells }
-    ensures value { result.now ≡ between (cell_at layout cells place) (cell_at layout cells place + 1024) bytes.now }
-    ensures len { length result.now ≡ 1024 }
-{
-    let at = cell_at(layout, cells, place);
-    &bytes[at..at + 1024]
-}
-
-// Whether a place is free.
-fn free_at(layout: Layout, bytes: &[u8], cells: usize, place: usize) -> bool
-    requires sized { SledSized cells bytes.now }
-    requires within { place < cells }
-    ensures { result ≡ is_free (place_at layout cells bytes.now place) }
-{
-    entry_of(layout, bytes, cells, place)[0] == 0
-}
-
-// Whether a place is sound and has this id and this share number.
-fn share_at(layout: Layout, bytes: &[u8], cells: usize, place: usize, id: u32, share: usize) -> bool
-    requires sized { SledSized cells bytes.now }
-    requires within { place < cells }
-    ensures { result ≡ answers id share (place_at layout cells bytes.now place) }
-{
-    let entry = entry_of(layout, bytes, cells, place);
-    entry::is_share(entry, cell_of(layout, bytes, cells, place), id, share)
-}
-
-// The first free place, or the number of places.
-pub(crate) fn first_free(layout: Layout, bytes: &[u8], cells: usize) -> usize
-    requires { SledSized cells bytes.now }
-    ensures value { result ≡ position is_free (places layout cells bytes.now) }
-    ensures within { result ≤ cells }
-{
-    for place in 0..cells {
-        if free_at(layout, bytes, cells, place) {
-            return place;
+    // One place.
+    fn place(&self, number: usize) -> Place<'a>
+        requires { number < self.now.plan.cells }
+        ensures { read result ≡ place_in self.now number }
+    {
+        let entry = self.plan.entry_at(number);
+        let cell = self.plan.cell_at(number);
+        Place {
+            entry: self.bytes[entry..].first_chunk().unwrap(),
+            cell: self.bytes[cell..].first_chunk().unwrap(),
         }
     }
-    cells
-}
 
-// How many places are free.
-pub(crate) fn free_places(layout: Layout, bytes: &[u8], cells: usize) -> usize
-    requires { SledSized cells bytes.now }
-    ensures { result ≡ many is_free (places layout cells bytes.now) }
-{
-    let mut count = 0;
-    for place in 0..cells {
-        if free_at(layout, bytes, cells, place) {
-            count += 1;
+    // Whether a place is free.
+    fn is_free(&self, number: usize) -> bool
+        requires { number < self.now.plan.cells }
+        ensures { result ≡ free_in self.now number }
+    {
+        self.place(number).is_free()
+    }
+
+    // The first free place.
+    pub(crate) fn first_free(&self) -> Option<usize>
+        ensures { result ≡ position (free_in self.now) (range_with_len 0 self.now.plan.cells) }
+    {
+        (0..self.plan.cells).position(|number| self.is_free(number))
+    }
+
+    // How many places there are before the first free one.
+    fn log_len(&self) -> usize
+        ensures value { result ≡ position_or_len is_free (places_in self.now) }
+        ensures within { result ≤ self.now.plan.cells }
+        ensures room { self.now.plan.layout ≡ Layout.Zone → self.now.plan.cells - result ≡ (meaning_of self.now).room }
+    {
+        self.first_free().unwrap_or(self.plan.cells)
+    }
+
+    // How many places are free.
+    fn free_places(&self) -> usize
+        ensures { result ≡ count_by (free_in self.now) (range_with_len 0 self.now.plan.cells) }
+    {
+        (0..self.plan.cells)
+            .filter(|&number| self.is_free(number))
+            .count()
+    }
+
+    // The places that are seen.
+    fn seen(&self) -> Seen<'a>
+        ensures sled { result.sled ≡ self.now }
+        ensures count { result.count ≡ seen_in self.now }
+    {
+        let count = match self.plan.layout {
+            Layout::Tray => self.plan.cells,
+            Layout::Zone => self.log_len(),
+        };
+        Seen { sled: *self, count }
+    }
+
+    // How many more shares the sled takes.
+    #[tactic(auto, using(crate::proofs::Scanned::tray_room_is))]
+    pub(crate) fn room(&self) -> usize
+        ensures { result ≡ (meaning_of self.now).room }
+    {
+        match self.plan.layout {
+            Layout::Tray => self.free_places(),
+            Layout::Zone => self.plan.cells - self.log_len(),
         }
     }
-    count
-}
 
-// How many places are seen.
-pub(crate) fn seen_places(layout: Layout, bytes: &[u8], cells: usize) -> usize
-    requires { SledSized cells bytes.now }
-    ensures value { result ≡ seen_count layout cells bytes.now }
-    ensures within { result ≤ cells }
-{
-    match layout {
-        Layout::Tray => cells,
-        Layout::Zone => first_free(layout, bytes, cells),
+    // How many shares the sled holds.
+    pub(crate) fn count(&self) -> usize
+        ensures { result ≡ count (meaning_of self.now) }
+    {
+        self.seen().total()
+    }
+
+    // The payload that the sled holds under this key.
+    pub(crate) fn payload(&self, key: Key) -> Option<&'a [u8]>
+        ensures { option_map (λ x. x.now) result ≡ held (meaning_of self.now) key.id key.number }
+    {
+        let seen = self.seen();
+        let j = seen.find(key)?;
+        Some(seen.place(j).payload())
     }
 }
 
-// The place that has its turn at j, of n places that are seen.
-pub(crate) fn place_in_turn(layout: Layout, n: usize, j: usize) -> usize
-    requires { j < n }
-    ensures value { result ≡ turn layout n j }
-    ensures within { result < n }
-{
-    match layout {
-        Layout::Tray => j,
-        Layout::Zone => n - 1 - j,
-    }
+// The places of a sled that are seen, each at its turn; how many they are is `count`. A turn is a number that each call gives, below `count`.
+#[derive(Clone, Copy)]
+struct Seen<'a> {
+    sled: Sled<'a>,
+    count: usize,
+    ghost within: { count ≤ sled.plan.cells },
 }
 
-// The first turn, of n places that are seen, at which a place is sound and has this id and this share number, or n.
-pub(crate) fn find_turn(
-    layout: Layout,
-    bytes: &[u8],
-    cells: usize,
-    n: usize,
-    id: u32,
-    share: usize,
-) -> usize
-    requires sized { SledSized cells bytes.now }
-    requires within { n ≤ cells }
-    ensures { result ≡ position (answers id share) (scan layout cells bytes.now n) }
-{
-    for j in 0..n {
-        let place = place_in_turn(layout, n, j);
-        if share_at(layout, bytes, cells, place, id, share) {
-            return j;
-        }
-    }
-    n
-}
+impl<'a> Seen<'a> {
+    ghost use Rattle.std.specs.Prelude.{count_by, position};
+    ghost use Rattle.std.specs.List.{range_with_len};
+    ghost use Rattle.image.specs.Scans.{turn};
+    ghost use Rattle.image.specs.Sleds.{read, place_in, answers_in, counts_in};
 
-// Whether the place that has its turn at j, of n places that are seen, counts: it is sound, and no earlier one has its id and number.
-fn counts_in_turn(layout: Layout, bytes: &[u8], cells: usize, n: usize, j: usize) -> bool
-    requires sized { SledSized cells bytes.now }
-    requires within { n ≤ cells }
-    requires seen { j < n }
-    ensures { result ≡ counts (scan layout cells bytes.now n) j (place_at layout cells bytes.now (turn layout n j)) }
-{
-    let place = place_in_turn(layout, n, j);
-    let entry = entry_of(layout, bytes, cells, place);
-    entry::sound(entry, cell_of(layout, bytes, cells, place))
-        && find_turn(
-            layout,
-            bytes,
-            cells,
-            n,
-            entry::id_in(entry),
-            entry[1] as usize,
-        ) == j
-}
-
-// How many shares the n places that are seen hold.
-pub(crate) fn count_seen(layout: Layout, bytes: &[u8], cells: usize, n: usize) -> usize
-    requires sized { SledSized cells bytes.now }
-    requires within { n ≤ cells }
-    ensures { result ≡ length (shares_of (scan layout cells bytes.now n)) }
-{
-    let mut count = 0;
-    for j in 0..n {
-        if counts_in_turn(layout, bytes, cells, n, j) {
-            count += 1;
-        }
+    // The place that has its turn at j.
+    fn place(&self, j: usize) -> Place<'a>
+        requires { j < self.now.count }
+        ensures { read result ≡ place_in self.now.sled (turn self.now.sled.plan.layout self.now.count j) }
+    {
+        self.sled.place(self.sled.plan.layout.turn(self.count, j))
     }
-    count
+
+    // Whether the place that has its turn at j is sound and has this key.
+    fn answers(&self, j: usize, key: Key) -> bool
+        requires { j < self.now.count }
+        ensures { result ≡ answers_in self.now.sled self.now.count key.id key.number j }
+    {
+        self.place(j).answers(key)
+    }
+
+    // The first turn at which a place is sound and has this key.
+    fn find(&self, key: Key) -> Option<usize>
+        ensures { result ≡ position (answers_in self.now.sled self.now.count key.id key.number) (range_with_len 0 self.now.count) }
+    {
+        (0..self.count).position(|j| self.answers(j, key))
+    }
+
+    // Whether the place that has its turn at j counts: it is sound, and no earlier one has its key.
+    fn counts(&self, j: usize) -> bool
+        requires { j < self.now.count }
+        ensures { result ≡ counts_in self.now.sled self.now.count j }
+    {
+        let place = self.place(j);
+        place.is_sound() && self.find(place.key()) == Some(j)
+    }
+
+    // How many of them count.
+    fn total(&self) -> usize
+        ensures { result ≡ count_by (counts_in self.now.sled self.now.count) (range_with_len 0 self.now.count) }
+    {
+        (0..self.count).filter(|&j| self.counts(j)).count()
+    }
 }

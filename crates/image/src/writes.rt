@@ -1,136 +1,107 @@
-// How the bytes of one sled change.
+// How the bytes of one sled change. The bytes, whose length each method asks for, are a parameter and no field of a struct: each method would
+// then also promise that the plan and the reference stay as they were, two clauses in place of one. That there is a place of the number that
+// a method takes is asked of each call, since the number is the call's.
 ghost use Rattle.std.specs.Prelude.{◌≡◌, ℕ, ◌+◌, ◌*◌, ◌<◌, ◌≤◌, length, slice_index};
-ghost use Rattle.image.specs.Layouts.{SledSized, places, over, freed, written, frees_next, sled_after_put, blanked_places, sled_after_blank};
+ghost use Rattle.std.specs.List.{position_or_len};
+ghost use Rattle.image.specs.Layouts.{places, over, freed, written, put_at, sled_after_put, sled_after_blank};
 ghost use Rattle.image.specs.Racks.{sled_start, sled_bytes};
-ghost use Rattle.image.specs.Places.{position, is_free};
+ghost use Rattle.image.specs.Places.{is_free};
 
-use crate::entry::new_entry;
-use crate::layout::Layout;
-use crate::sled::{cell_at, entry_at, first_free};
+use crate::place::Share;
+use crate::plan::Plan;
+use crate::sled::Sled;
 
-// Sets the state of a place to 0.
-fn free_place(layout: Layout, bytes: &mut [u8], cells: usize, place: usize)
-    requires sized { SledSized cells bytes.old }
-    requires within { place < cells }
-    ensures { bytes.new ≡ freed layout cells place bytes.old }
-{
-    let at = entry_at(layout, cells, place);
-    bytes[at] = 0;
-}
-
-// Writes the entry and the payload of a share to a place.
-fn write_place(
-    layout: Layout,
-    bytes: &mut [u8],
-    cells: usize,
-    place: usize,
-    id: u32,
-    share: u8,
-    payload: &[u8],
-)
-    requires sized { SledSized cells bytes.old }
-    requires within { place < cells }
-    requires short { length payload.now ≤ 1024 }
-    ensures { bytes.new ≡ written layout cells place id share payload.now bytes.old }
-{
-    let entry = new_entry(id, share, payload);
-    let start = entry_at(layout, cells, place);
-    bytes[start..start + 16].copy_from_slice(&entry);
-    let at = cell_at(layout, cells, place);
-    bytes[at..at + payload.len()].copy_from_slice(payload);
-}
-
-// Whether a put also frees the place after the one that it writes.
-fn put_frees_next(layout: Layout) -> bool
-    ensures { result ≡ frees_next layout }
-{
-    match layout {
-        Layout::Tray => false,
-        Layout::Zone => true,
+impl Plan {
+    // Sets the state of a place to 0.
+    fn free(self, bytes: &mut [u8], place: usize)
+        requires whole { length bytes.old ≡ self.cells * 1040 }
+        requires within { place < self.cells }
+        ensures { bytes.new ≡ freed self.layout self.cells place bytes.old }
+    {
+        bytes[self.entry_at(place)] = 0;
     }
-}
 
-// Puts a share to the first free place.
-pub(crate) fn put(
-    layout: Layout,
-    bytes: &mut [u8],
-    cells: usize,
-    id: u32,
-    share: u8,
-    payload: &[u8],
-)
-    requires sized { SledSized cells bytes.old }
-    requires room { position is_free (places layout cells bytes.old) < cells }
-    requires short { length payload.now ≤ 1024 }
-    ensures { bytes.new ≡ sled_after_put layout cells id share payload.now bytes.old }
-{
-    let place = first_free(layout, bytes, cells);
-    write_place(layout, bytes, cells, place, id, share, payload);
-    if put_frees_next(layout) && place + 1 < cells {
-        free_place(layout, bytes, cells, place + 1);
+    // Writes the entry and the payload of a share to a place.
+    fn write(self, bytes: &mut [u8], place: usize, share: &Share<'_>)
+        requires whole { length bytes.old ≡ self.cells * 1040 }
+        requires within { place < self.cells }
+        ensures { bytes.new ≡ written self.layout self.cells place share.now.key.id share.now.key.number share.now.payload.now bytes.old }
+    {
+        let start = self.entry_at(place);
+        bytes[start..start + 16].copy_from_slice(&share.entry());
+        let at = self.cell_at(place);
+        bytes[at..at + share.payload.len()].copy_from_slice(share.payload);
     }
-}
 
-// How many states a blank sets to 0.
-fn states_to_clear(layout: Layout, cells: usize) -> usize
-    requires { 1 ≤ cells }
-    ensures value { result ≡ blanked_places layout cells }
-    ensures within { result ≤ cells }
-{
-    match layout {
-        Layout::Tray => cells,
-        Layout::Zone => 1,
+    // The first free place.
+    fn next_place(self, bytes: &[u8]) -> usize
+        requires whole { length bytes.now ≡ self.cells * 1040 }
+        requires room { position_or_len is_free (places self.layout self.cells bytes.now) < self.cells }
+        ensures { result ≡ position_or_len is_free (places self.layout self.cells bytes.now) }
+    {
+        Sled { plan: self, bytes }.first_free().unwrap()
     }
-}
 
-// Empties the sled.
-pub(crate) fn blank(layout: Layout, bytes: &mut [u8], cells: usize)
-    requires { SledSized cells bytes.old }
-    ensures { bytes.new ≡ sled_after_blank layout cells bytes.old }
-{
-    let n = states_to_clear(layout, cells);
-    for place in 0..n {
-        free_place(layout, bytes, cells, place);
+    // Puts a share to a place.
+    fn put_at(self, bytes: &mut [u8], place: usize, share: &Share<'_>)
+        requires whole { length bytes.old ≡ self.cells * 1040 }
+        requires within { place < self.cells }
+        ensures { bytes.new ≡ put_at self.layout self.cells place share.now.key.id share.now.key.number share.now.payload.now bytes.old }
+    {
+        self.write(bytes, place, share);
+        if self.layout.frees_next() && place + 1 < self.cells {
+            self.free(bytes, place + 1);
+        }
     }
-}
 
-// Puts a share on one sled of an image whose sleds have this many places.
-pub(crate) fn put_on_sled(
-    layout: Layout,
-    image: &mut [u8],
-    cells: usize,
-    sled: usize,
-    id: u32,
-    share: u8,
-    payload: &[u8],
-)
-    requires there { sled_start cells sled + cells * 1040 ≤ length image.old }
-    requires sized { SledSized cells (sled_bytes cells image.old sled) }
-    requires room { position is_free (places layout cells (sled_bytes cells image.old sled)) < cells }
-    requires short { length payload.now ≤ 1024 }
-    ensures after { image.new ≡ over (sled_start cells sled) (sled_after_put layout cells id share payload.now (sled_bytes cells image.old sled)) image.old }
-    ensures bytes { (k : ℕ) → slice_index image.new k < 256 }
-{
-    let size = cells * 1040;
-    let start = 8 + sled * size;
-    put(
-        layout,
-        &mut image[start..start + size],
-        cells,
-        id,
-        share,
-        payload,
-    );
-}
+    // Puts a share to this place, which is the first free one.
+    fn put_first(self, bytes: &mut [u8], place: usize, share: &Share<'_>)
+        requires whole { length bytes.old ≡ self.cells * 1040 }
+        requires first { place ≡ position_or_len is_free (places self.layout self.cells bytes.old) }
+        requires room { place < self.cells }
+        ensures { bytes.new ≡ sled_after_put self.layout self.cells share.now.key.id share.now.key.number share.now.payload.now bytes.old }
+    {
+        self.put_at(bytes, place, share);
+    }
 
-// Empties one sled of an image whose sleds have this many places.
-pub(crate) fn blank_sled(layout: Layout, image: &mut [u8], cells: usize, sled: usize)
-    requires there { sled_start cells sled + cells * 1040 ≤ length image.old }
-    requires sized { SledSized cells (sled_bytes cells image.old sled) }
-    ensures after { image.new ≡ over (sled_start cells sled) (sled_after_blank layout cells (sled_bytes cells image.old sled)) image.old }
-    ensures bytes { (k : ℕ) → slice_index image.new k < 256 }
-{
-    let size = cells * 1040;
-    let start = 8 + sled * size;
-    blank(layout, &mut image[start..start + size], cells);
+    // Puts a share to the first free place.
+    fn put(self, bytes: &mut [u8], share: &Share<'_>)
+        requires whole { length bytes.old ≡ self.cells * 1040 }
+        requires room { position_or_len is_free (places self.layout self.cells bytes.old) < self.cells }
+        ensures { bytes.new ≡ sled_after_put self.layout self.cells share.now.key.id share.now.key.number share.now.payload.now bytes.old }
+    {
+        let place = self.next_place(bytes);
+        self.put_first(bytes, place, share);
+    }
+
+    // Empties the sled. A loop, since each turn writes: after `for_each` nothing is known of what its closure wrote.
+    fn blank(self, bytes: &mut [u8])
+        requires { length bytes.old ≡ self.cells * 1040 }
+        ensures { bytes.new ≡ sled_after_blank self.layout self.cells bytes.old }
+    {
+        for place in 0..self.layout.blanked_places(self.cells) {
+            self.free(bytes, place);
+        }
+    }
+
+    // Puts a share on one sled of an image.
+    pub(crate) fn put_on(self, image: &mut [u8], sled: usize, share: &Share<'_>)
+        requires there { sled_start self.cells sled + self.cells * 1040 ≤ length image.old }
+        requires room { position_or_len is_free (places self.layout self.cells (sled_bytes self.cells image.old sled)) < self.cells }
+        ensures after { image.new ≡ over (sled_start self.cells sled) (sled_after_put self.layout self.cells share.now.key.id share.now.key.number share.now.payload.now (sled_bytes self.cells image.old sled)) image.old }
+        ensures bytes { (k : ℕ) → slice_index image.new k < 256 }
+    {
+        let start = self.sled_start(sled);
+        self.put(&mut image[start..start + self.size()], share);
+    }
+
+    // Empties one sled of an image. As put_on but for the call in it: one over both would take a closure that writes.
+    pub(crate) fn blank_on(self, image: &mut [u8], sled: usize)
+        requires { sled_start self.cells sled + self.cells * 1040 ≤ length image.old }
+        ensures after { image.new ≡ over (sled_start self.cells sled) (sled_after_blank self.layout self.cells (sled_bytes self.cells image.old sled)) image.old }
+        ensures bytes { (k : ℕ) → slice_index image.new k < 256 }
+    {
+        let start = self.sled_start(sled);
+        self.blank(&mut image[start..start + self.size()]);
+    }
 }

@@ -1,8 +1,8 @@
 // What puts, blanks, fetches and openings make of images that are written out here byte by byte.
 // The checks of "foobar", "a" and "b" are the published values of FNV-1a.
-use bank::Bank;
 use bank::join::Join;
 use bank::quota::Quota;
+use bank::{Bank, Key};
 use image::{Tray, Zone};
 use std::alloc::{AllocError, Global};
 use std::test::Fail;
@@ -11,6 +11,12 @@ use std::test::Fail;
 const FOOBAR: [u8; 16] = [
     1, 5, 6, 0, 4, 3, 2, 1, 0xE8, 0x67, 0x39, 0xF7, 0x71, 0x41, 0x94, 0x85,
 ];
+
+// The id and the share number that the entry tells.
+const FOOBAR_KEY: Key = Key {
+    id: 0x01020304,
+    number: 5,
+};
 
 // State 1, share 3, 1 byte, id 7, and the check of "a", which is 0xAF63DC4C8601EC8C.
 const A: [u8; 16] = [
@@ -22,13 +28,14 @@ const B: [u8; 16] = [
     1, 3, 1, 0, 7, 0, 0, 0, 0xA5, 0xF1, 0x01, 0x86, 0x4C, 0xDF, 0x63, 0xAF,
 ];
 
+// The id and the share number that both tell.
+const A_KEY: Key = Key { id: 7, number: 3 };
+
 // Adds these bytes, and then equal ones, so that there are len bytes more.
 fn add(image: &mut Vec<u8>, bytes: &[u8], fill: u8, len: usize) -> Result<(), AllocError> {
+    let end = image.len().saturating_add(len);
     image.extend_from_slice(bytes)?;
-    for _ in bytes.len()..len {
-        image.push(fill)?;
-    }
-    Ok(())
+    image.resize(end, fill)
 }
 
 // A tray of one sled of two places, by how its entries and its cells begin.
@@ -55,18 +62,12 @@ fn zone_bytes(heap: Global, entries: [&[u8]; 3], cells: [&[u8]; 3]) -> Result<Ve
 
 // The tray with these bytes.
 fn tray(bytes: Vec<u8>) -> Result<Tray, Fail> {
-    match Tray::open(bytes) {
-        Ok(tray) => Ok(tray),
-        Err(_) => Err(Fail::new("the tray was not opened")),
-    }
+    Tray::open(bytes).map_err(|_| Fail::new("the tray was not opened"))
 }
 
 // The zone with these bytes.
 fn zone(bytes: Vec<u8>) -> Result<Zone, Fail> {
-    match Zone::open(bytes) {
-        Ok(zone) => Ok(zone),
-        Err(_) => Err(Fail::new("the zone was not opened")),
-    }
+    Zone::open(bytes).map_err(|_| Fail::new("the zone was not opened"))
 }
 
 // The lowest free place of a tray is written, and nothing else.
@@ -74,7 +75,7 @@ fn zone(bytes: Vec<u8>) -> Result<Zone, Fail> {
 fn put_on_a_tray(rt: HostRuntime) -> Result<(), Fail> {
     let heap = rt.alloc();
     let mut tray = tray(tray_bytes(heap, [&[7], &[0]], [b"", b""])?)?;
-    assert!(rt; tray.put(0, 0x01020304, 5, b"foobar").is_ok());
+    assert!(rt; tray.put(0, FOOBAR_KEY, b"foobar").is_ok());
     let by_hand = tray_bytes(heap, [&[7], &FOOBAR], [b"", b"foobar"])?;
     assert!(rt; tray.into_image().as_slice() == by_hand.as_slice());
     Ok(())
@@ -96,7 +97,7 @@ fn blank_of_a_tray(rt: HostRuntime) -> Result<(), Fail> {
 fn put_on_a_zone(rt: HostRuntime) -> Result<(), Fail> {
     let heap = rt.alloc();
     let mut zone = zone(zone_bytes(heap, [&[7], &[0], &[9, 4]], [b"", b"", b"y"])?)?;
-    assert!(rt; zone.put(0, 0x01020304, 5, b"foobar").is_ok());
+    assert!(rt; zone.put(0, FOOBAR_KEY, b"foobar").is_ok());
     let by_hand = zone_bytes(heap, [&[7], &FOOBAR, &[0, 4]], [b"", b"foobar", b"y"])?;
     assert!(rt; zone.into_image().as_slice() == by_hand.as_slice());
     Ok(())
@@ -120,31 +121,29 @@ fn which_place_counts(rt: HostRuntime) -> Result<(), Fail> {
     let tray = tray(tray_bytes(heap, [&A, &B], [b"a", b"b"])?)?;
     let zone = zone(zone_bytes(heap, [&A, &B, &[0]], [b"a", b"b", b""])?)?;
     let mut buffer = [9; 2];
-    assert_eq!(rt; tray.fetch(0, 7, 3, &mut buffer)?, 1);
+    assert_eq!(rt; tray.fetch(0, A_KEY, &mut buffer)?, 1);
     assert_eq!(rt; buffer, [b'a', 9]);
-    assert_eq!(rt; zone.fetch(0, 7, 3, &mut buffer)?, 1);
+    assert_eq!(rt; zone.fetch(0, A_KEY, &mut buffer)?, 1);
     assert_eq!(rt; buffer, [b'b', 9]);
     Ok(())
 }
 
-// The detail by which a tray of these bytes is refused, or 99 where it is opened.
-fn detail(heap: Global, bytes: &[u8]) -> Result<usize, AllocError> {
-    match Tray::open(bytes.to_vec(heap)?) {
-        Ok(_) => Ok(99),
-        Err(unopened) => Ok(unopened.fault.detail),
-    }
+// The detail by which a tray of these bytes is refused, if it is.
+fn detail(heap: Global, bytes: &[u8]) -> Result<Option<usize>, AllocError> {
+    let opened = Tray::open(bytes.to_vec(heap)?);
+    Ok(opened.err().map(|unopened| unopened.fault.detail))
 }
 
 // Why an image is not opened, check by check.
 #[test]
 fn refused_openings(rt: HostRuntime) -> Result<(), Fail> {
     let heap = rt.alloc();
-    assert_eq!(rt; detail(heap, b"TRAY\x01\x01\x00")?, 8);
-    assert_eq!(rt; detail(heap, b"ZONE\x00\x00\x01\x00")?, 0);
-    assert_eq!(rt; detail(heap, b"TRAY\x21\x00\x01\x00")?, 4);
-    assert_eq!(rt; detail(heap, b"TRAY\x20\x41\x01\x00")?, 5);
-    assert_eq!(rt; detail(heap, b"TRAY\x20\x40\x00\x01")?, 6);
-    assert_eq!(rt; detail(heap, b"TRAY\x20\x40\x00\x00")?, 8);
+    assert_eq!(rt; detail(heap, b"TRAY\x01\x01\x00")?, Some(8));
+    assert_eq!(rt; detail(heap, b"ZONE\x00\x00\x01\x00")?, Some(0));
+    assert_eq!(rt; detail(heap, b"TRAY\x21\x00\x01\x00")?, Some(4));
+    assert_eq!(rt; detail(heap, b"TRAY\x20\x41\x01\x00")?, Some(5));
+    assert_eq!(rt; detail(heap, b"TRAY\x20\x40\x00\x01")?, Some(6));
+    assert_eq!(rt; detail(heap, b"TRAY\x20\x40\x00\x00")?, Some(8));
     Ok(())
 }
 
@@ -160,8 +159,8 @@ fn a_pile_of_banks(rt: HostRuntime) -> Result<(), Fail> {
     assert_eq!(rt; pile.sleds(), 2);
     assert_eq!(rt; (pile.room(0), pile.size(0)), (0, 0));
     assert_eq!(rt; (pile.room(1), pile.size(1)), (3, 3));
-    assert!(rt; pile.put(0, 0x01020304, 5, b"foobar").is_err());
-    assert!(rt; pile.put(1, 0x01020304, 5, b"foobar").is_ok());
+    assert!(rt; pile.put(0, FOOBAR_KEY, b"foobar").is_err());
+    assert!(rt; pile.put(1, FOOBAR_KEY, b"foobar").is_ok());
     let (_tray, zone) = pile.into_bank().into_banks();
     let by_hand = zone_bytes(heap, [&FOOBAR, &[0], &[9]], [b"foobar", b"", b""])?;
     assert!(rt; zone.into_image().as_slice() == by_hand.as_slice());

@@ -1,14 +1,10 @@
 // Keeps a disk's dump as shares, loses half of them, and gets the dump back, over each field.
 #![tactic(auto)]
 
-mod check;
 mod demo;
-mod failure;
-mod shares;
-mod timing;
-mod words;
 
-use failure::Failure;
+use dumps::failure::Failure;
+use dumps::timing;
 use std::{env, fs};
 
 // Reads the dump from the folder that the program runs in, and shows how its shares give it back.
@@ -17,19 +13,20 @@ fn show_shares(rt: &HostRuntime) -> Result<(), Failure> {
     demo::show(rt, dump.as_slice())
 }
 
+// Measures how long it takes to make shares over each field.
+fn show_times(rt: &HostRuntime) -> Result<(), Failure> {
+    println!(rt; "{}", timing::measure_fields(rt)?)?;
+    Ok(())
+}
+
 // Runs what the first argument asks for: the demonstration without one, the measurement with `time`.
 fn run(rt: &HostRuntime) -> Result<(), Failure> {
     let mut words = env::args(rt)?;
     let _program = words.next();
     match words.next() {
         None => show_shares(rt),
-        Some(word) => {
-            if word.as_str() == "time" {
-                timing::measure_fields(rt)
-            } else {
-                Err(Failure::UnknownRequest)
-            }
-        }
+        Some(word) if word.as_str() == "time" => show_times(rt),
+        Some(_) => Err(Failure::UnknownRequest),
     }
 }
 

@@ -1,5 +1,5 @@
 -- What follows from the grounds for refusal. Assumes nothing.
-use Rattle.std.proofs.Common.{◌≡◌, ℕ, false, List, [], ◌∷◌, is_ok, Ok, Err, Result, ◌∙◌, inl, inr, ⊎_elim, arith}
+use Rattle.std.proofs.Common.{◌≡◌, false, List, [], ◌∷◌, is_ok, Ok, Err, Result, ◌∙◌, inl, inr, ⊎_elim}
 use Rattle.refusal.specs.Refusals.{Refusal}
 use Rattle.refusal.specs.Grounds.{Ground, Clear, Told, Answers}
 
@@ -32,5 +32,5 @@ answers_first g g' gs of (Err e) P Q same not h =
 -- an answer that is no Ok, of which nothing has to follow
 pub answers_refused : {X E : Type 0} (gs : List Ground) (of : E → Refusal) (r : Result X E) (P P' : X → Type 0) {Q Q' : E → Type 0}
     → is_ok r ≡ false → Answers gs of r P Q → ((e : E) → Q e → Q' e) → Answers gs of r P' Q'
-answers_refused gs of (Ok x) P P' no_Ok h g = absurd (let z : ◌≡◌ {A = ℕ} 0 1 = cc in omega arith)
+answers_refused gs of (Ok x) P P' no_Ok h g = absurd (cc)
 answers_refused gs of (Err e) P P' no_Ok h g = (h.0, g e h.1)

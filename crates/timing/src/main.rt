@@ -1,9 +1,8 @@
 // Measures how long it takes to make shares, on request.
 #![tactic(auto)]
 
-mod rounds;
-
 use dumps::failure::Failure;
+use dumps::timing;
 use std::env;
 
 // Measures where an argument is given, and else says so.
@@ -11,12 +10,10 @@ fn run(rt: &HostRuntime) -> Result<(), Failure> {
     let mut words = env::args(rt)?;
     let _program = words.next();
     match words.next() {
-        Some(_) => rounds::measure_fields(rt),
-        None => {
-            println!(rt; "with an argument: measures how long it takes to make shares")?;
-            Ok(())
-        }
+        Some(_) => println!(rt; "{}", timing::measure_fields(rt)?)?,
+        None => println!(rt; "with an argument: measures how long it takes to make shares")?,
     }
+    Ok(())
 }
 
 // Runs the program; the runtime prints an error that it ends with.

@@ -8,7 +8,7 @@ ghost use Rattle.code.specs.Calls.{code_grounds};
 use super::{Code, FieldChoice};
 use refusal::{Fault, Layer, Reason};
 
-// A refusal of the layer code, which has no detail.
+// A refusal of the layer code, which has no detail. The other layers have one each: a struct literal, which a shared one would not shorten.
 pub(crate) fn refuse(reason: Reason) -> Fault
     ensures { result ≡ record { reason = reason; layer = Layer.Code; detail = 0 } }
 {
@@ -19,19 +19,42 @@ pub(crate) fn refuse(reason: Reason) -> Fault
     }
 }
 
+// The field with this number, or the refusal of numbers that no code has.
+impl TryFrom<usize> for FieldChoice {
+    type Error = Fault;
+
+    ghost use Rattle.code.specs.Calls.{field_grounds};
+
+    ghost try_from_gives = { λ number r. Answers (field_grounds number) refusal_of r (λ field. field_number field ≡ number) (λ _. Unit {0}) };
+
+    fn try_from(number: usize) -> Result<FieldChoice, Fault> {
+        match number {
+            0 => Ok(FieldChoice::Binary),
+            1 => Ok(FieldChoice::Prime),
+            _ => Err(refuse(Reason::BadCode)),
+        }
+    }
+}
+
+// The number of a field.
+impl From<FieldChoice> for usize {
+    ghost from_gives = { λ field number. number ≡ field_number field };
+
+    fn from(field: FieldChoice) -> usize {
+        field as usize
+    }
+}
+
 impl Code {
     // The code with these numbers, or a refusal: there is no code with others.
+    // The field is asked for by its number, since any numbers may be asked for (a rule of the project), and the refusal has its place in their order.
     pub fn new(field: usize, k: usize, h: usize, n: usize) -> Result<Code, Fault>
         ensures { Answers (code_grounds (numbered field k h n)) refusal_of result (λ c. numbers c ≡ numbered field k h n) (λ _. Unit {0}) }
     {
-        if field > 1 || k < 1 || k > 16 || k > h || h > n || n > 32 {
+        let field = FieldChoice::try_from(field)?;
+        if k < 1 || k > 16 || k > h || h > n || n > 32 {
             return Err(refuse(Reason::BadCode));
         }
-        let field = if field == 0 {
-            FieldChoice::Binary
-        } else {
-            FieldChoice::Prime
-        };
         Ok(Code { field, k, h, n })
     }
 

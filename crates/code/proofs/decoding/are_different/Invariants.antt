@@ -3,6 +3,3 @@ use Rattle.code.proofs.decoding.are_different.Given as goal
 
 abbrev pub invariant-loop-i : goal.invariant-loop-i
 invariant-loop-i l = ((k : ℕ) → k < l.i → get_or l.shares k 0 < l.n) × ((k m : ℕ) → k < l.i → m < k → get_or l.shares k 0 ≡ get_or l.shares m 0 → ⊥)
-
-abbrev pub invariant-loop-j : goal.invariant-loop-j
-invariant-loop-j l = (m : ℕ) → m < l.j → get_or l.shares l.i 0 ≡ get_or l.shares m 0 → ⊥

@@ -1,60 +1,62 @@
-use Rattle.std.proofs.Common.{◌≡◌, ℕ, ◌+◌, ◌*◌, ◌<◌, length, get_or, sym, ap, ◌∙◌, subst, inl, inr, arith}
+use Rattle.std.proofs.Common.{◌≡◌, ℕ, ◌+◌, ◌-◌, ◌*◌, ◌<◌, ◌≤◌, length, get_or, take, ap, ◌∙◌, sym, subst, inl, inr, arith, length-take}
+use Rattle.std.proofs.lemmas.Nat.{mul-le}
 use Rattle.std.proofs.lemmas.Bool.{cases_eq}
-use Rattle.code.specs.Lagrange.{entry, interpolated}
-use Rattle.code.proofs.Blocks.{block_below}
-use Rattle.code.proofs.Rows.{row_ends}
-use Rattle.code.proofs.Coded as coded
+use Rattle.std.proofs.lemmas.List.{get_or-take, length-take-le}
+use Rattle.code.specs.Lagrange.{entry, value_at, IsByteOf}
+use Rattle.code.proofs.Coded.{known}
+use Rattle.code.proofs.Rows.{row_ends, fails}
+use borrow.Rule.Slice.PartMut.{put_mid, same_len_mid}
+use Rattle.code.proofs.Writes.{before_part, in_part}
 use Rattle.code.proofs.decoding.decode_blocks.Given as given
 use Rattle.code.proofs.decoding.decode_blocks.Goals as goal
-use Rattle.code.proofs.decoding.decode_blocks.Goals.{After-interpolate}
-
-pub returns-then-start-len : goal.returns-then-start-len
-returns-then-start-len g c b i h within =
-    c.loop-b.invariant b i (block_below b i c.loop-b.b c.args.block c.args.len within c.if-start-len.true) h within
+use Rattle.code.proofs.decoding.decode_blocks.Goals.{After-interpolate-sums}
 
 -- the sums of a turn are the values at the block's point
-value : (g : given.Over) (c : After-interpolate g) (i : ℕ) → i < c.args.block
-    → entry g.F.Field.elem (g.F.Field.sym g.F.Field.model.zero) c.interpolate.new.sums i
-    ≡ interpolated g.F.Field.model (entry g.F.Field.elem (g.F.Field.sym g.F.Field.model.zero) c.args.points.now)
-    (λ m. entry g.F.Field.elem (g.F.Field.sym g.F.Field.model.zero) c.args.rows.now (m * c.args.block + i)) (length c.args.points.now) (g.F.Field.model.point c.loop-b.b)
+value : (g : given.Over) (c : After-interpolate-sums g) (i : ℕ) → i < c.args.block
+    → entry g.F.Field c.interpolate-sums.result i ≡ value_at g.F.Field c.args.points.now c.args.rows.now c.args.block (g.F.Field.model.point c.loop-b.b) i
 value g c i h =
     let f = g.F.Field in
-    let z = f.sym f.model.zero in
-    let back = g.met.F.Field.recovers in
-    coded.known f.elem f.sym back (c.interpolate.ensures i h)
-    ∙ ap (interpolated f.model (entry f.elem z c.args.points.now) (λ m. entry f.elem z c.args.rows.now (m * c.args.block + i)) (length c.args.points.now))
-    (coded.known f.elem f.sym back c.in-Some.ensures.1)
+    let at = rw c.unwrap-point.ensures at c.point.ensures in
+    c.interpolate-sums.ensures.values i h ∙ ap (λ y. value_at f c.args.points.now c.args.rows.now c.args.block y i) (known f g.met.F.Field.recovers at.1)
 
-pub returns-then-not-bytes_of : goal.returns-then-not-bytes_of
-returns-then-not-bytes_of g c =
-    let bad = c.if-not-bytes_of.ensures.bytes in
-    let within : bad.0 < c.args.block = omega (arith, bad.1, c.min-count.ensures) in (
+pub returns-in_err-bytes_of : goal.returns-in_err-bytes_of
+returns-in_err-bytes_of g c =
+    let bad = c.in_err-bytes_of.ensures in
+    let within : bad.0 < c.min-count.result = omega (arith, bad.1, length-take {A = g.row.F-Symbol.Denot}) in
+    let place : bad.0 < c.args.block = omega (arith, within, c.min-count.ensures) in
+    fails _ _ c.from_residual.result c.from_residual.ensures.0 (
       c.loop-b.b,
       bad.0,
-      within,
-      omega (arith, bad.1, c.min-count.ensures),
-      λ y h e. bad.2 y h (e ∙ sym (value g (goal.at.returns-then-not-bytes_of g c).After-interpolate bad.0 within)),
+      place,
+      omega (arith, within, c.min-count.ensures),
+      λ y h e. bad.2 y h (e ∙ sym (value g (goal.at.returns-in_err-bytes_of g c).After-interpolate-sums bad.0 place)
+          ∙ sym (ap g.F.Field.elem (get_or-take c.min-count.result c.interpolate-sums.result bad.0 (g.F.Field.sym g.F.Field.model.zero) within))),
     )
 
 pub loop-b-preserved : goal.loop-b-preserved
-loop-b-preserved g c b i hb h within =
+loop-b-preserved g c =
     let f = g.F.Field in
     let B = c.args.block in
-    let done = c.if-not-bytes_of.ensures in
-    elim (cases_eq b c.loop-b.b) [
-      | inl e ↦
-          let z = f.sym f.model.zero in
-          let now = c.bytes_of.new.out in
-          let count : i < c.min-count.result = omega (arith, c.min-count.ensures, ap (λ (n : ℕ). n * B) e) in
-          let here = done.bytes i count in
-          subst (λ (n : ℕ). (get_or now (n * B + i) 0 < 256) × (f.model.byte (get_or now (n * B + i) 0) ≡ interpolated f.model (entry f.elem z c.args.points.now) (λ m. entry f.elem z c.args.rows.now (m * B + i)) (length c.args.points.now) (f.model.point n)))
-          (sym e) (here.0, here.1 ∙ value g (goal.at.loop-b-preserved g c).After-interpolate i h)
-      | inr d ↦
-          let before : b * B + i < c.loop-b.b * B = omega (arith, row_ends b c.loop-b.b B (c.loop-b.b * B) (omega arith) (omega arith)) in
-          rw (done.kept (b * B + i) before) (c.loop-b.invariant b i (omega arith) h within)
-    ]
-
-pub returns : goal.returns
-returns g c b i h within =
-    let hb = block_below b i (length c.args.points.now) c.args.block c.args.len within c.requires.cut in
-    c.loop-b.invariant b i (omega arith) h within
+    let n = c.min-count.result in
+    let a = c.loop-b.b * B in
+    let k = 16384 - a in
+    let xs = c.loop-b.found in
+    let ys = c.bytes_of.new.out in
+    let now = put_mid a k xs ys in
+    let sums = c.interpolate-sums.result in
+    let whole = mul-le (length c.args.points.now) B 16 1024 c.requires.few c.requires.short in
+    let inside : a ≤ length xs = omega arith in
+    let size : length (take n sums) ≡ n = length-take-le n sums (omega (arith, c.min-count.ensures, c.interpolate-sums.ensures.size)) in (
+      same_len_mid a k xs ys c.bytes_of.auto.out ∙ c.loop-b.invariant.0,
+      λ b i hb h within. elim (cases_eq b c.loop-b.b) [
+        | inl e ↦
+            let count : i < n = omega (arith, c.min-count.ensures, ap (λ (n : ℕ). n * B) e) in
+            let here = c.in_ok-bytes_of.ensures i (omega arith) in
+            let read : get_or now (a + i) 0 ≡ get_or ys i 0 = in_part 0 xs ys a k inside i (omega (arith, c.bytes_of.auto.out)) in
+            subst (λ (n : ℕ). IsByteOf f.model (value_at f c.args.points.now c.args.rows.now B (f.model.point n) i) (get_or now (n * B + i) 0))
+            (sym e) (rw read (here.0, here.1 ∙ ap f.elem (get_or-take n sums i (f.sym f.model.zero) count) ∙ value g (goal.at.loop-b-preserved g c).After-interpolate-sums i h))
+        | inr d ↦
+            let before : b * B + i < a = omega (arith, row_ends b c.loop-b.b B a (omega arith) (omega arith)) in
+            rw (before_part 0 xs ys a k inside (b * B + i) before) (c.loop-b.invariant.1 b i (omega arith) h within)
+      ],
+    )

@@ -6,4 +6,4 @@ use Rattle.code.proofs.symbols.store.Given as goal
 abbrev pub invariant-loop-i : goal.invariant-loop-i
 invariant-loop-i g l =
     let f = g.F.Field in
-    l.out ≡ serial f.model (entry f.elem (f.sym f.model.zero) l.symbols) l.i ++ drop (l.i * f.model.width) l.initial.out
+    l.out ≡ serial f.model (entry f l.symbols) l.i ++ drop (l.i * f.model.width) l.initial.out

@@ -1,19 +1,14 @@
-use Rattle.std.proofs.Common.{◌≡◌, ap, ◌∙◌, arith, lit<, rules}
-use Rattle.field.specs.Binary.{point_of}
-use Rattle.field.proofs.Steps.{point_step, point-one, point-zero}
+use Rattle.std.proofs.Common.{◌≡◌, ℕ, ◌-◌, ap, ◌∙◌, arith, rules, length}
+use Rattle.std.proofs.iter.runs.Sources.{ranges}
+use Rattle.field.specs.Binary.{times, point_of}
+use Rattle.field.proofs.Steps.{doubled_point, point-zero}
 use Rattle.field.proofs.binary.point_at.Goals as goal
 
-pub returns-then-j-eq0 : goal.returns-then-j-eq0
-returns-then-j-eq0 c = let e : 0 ≡ c.args.j = omega arith in point-zero ∙ ap point_of e
+pub returns-in-0 : goal.returns-in-0
+returns-in-0 c = let e : 0 ≡ c.args.j = omega arith in point-zero ∙ ap point_of e
 
-pub loop-i-init : goal.loop-i-init
-loop-i-init c = (point-one, lit< tt)
-
-pub loop-i-preserved : goal.loop-i-preserved
-loop-i-preserved c = (
-  c.double-power.ensures ∙ point_step c.loop-i._i c.loop-i.power (search rules) c.loop-i.invariant.1 c.loop-i.invariant.0,
-  c.double-power.type_inv,
-)
-
-pub returns : goal.returns
-returns c = let e : c.loop-i._i ≡ c.args.j = omega arith in c.loop-i.invariant.0 ∙ ap point_of e
+pub returns-in_default : goal.returns-in_default
+returns-in_default c =
+    let run = c.fold.ensures.runs in
+    let n : length run.0.items ≡ c.args.j - 1 = search (rules, ranges) in
+    run.3 (λ (p k : ℕ). times p 2) (λ p k r f' call. search rules) ∙ doubled_point run.0.items c.args.j (omega arith) n

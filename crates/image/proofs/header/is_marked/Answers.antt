@@ -14,6 +14,6 @@ four Zone = refl
 pub returns : goal.returns
 returns c =
     let d = slice_eq-Decides Decides-eqb _ _ _ c.starts_with.ensures.value in
-    let m = c.mark_of.ensures in
-    let n : length c.mark_of.result ≡ 4 = ap length m ∙ four c.args.layout in
+    let m = c.mark.ensures in
+    let n : length c.mark.result ≡ 4 = ap length m ∙ four c.args.layout in
     (λ t. sym (sym m ∙ d.0 t ∙ ap (λ k. take k c.args.image.now) n), λ e. d.1 (m ∙ sym e ∙ ap (λ k. take k c.args.image.now) (sym n)))

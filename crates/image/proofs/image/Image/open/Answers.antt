@@ -2,20 +2,22 @@ use Rattle.std.proofs.Common.{ℕ, ◌<◌, List, get_or, vec_items, refl, subst
 use Rattle.refusal.specs.Grounds.{Clear, Told}
 use Rattle.refusal.specs.Refusals.{refusal_of}
 use Rattle.image.specs.Opening.{open_grounds}
-use Rattle.image.specs.Rows.{marked, shape, kept}
+use Rattle.image.specs.Rows.{marked, shape}
 use Rattle.image.proofs.image.Image.open.Goals as goal
 
 pub invariant_of-result : goal.invariant_of-result
-invariant_of-result c =
-    let e = c.as_slice.ensures.value in
-    let ok = shape c.args.layout (vec_items c.args.bytes) (subst (λ img. Clear (open_grounds c.args.layout img)) e c.in-Ok.ensures.answers.0) in
-    let typed = subst (λ (img : List ℕ). (k : ℕ) → get_or img k 0 < 256) e c.check_header.ensures.bytes in
-    kept (vec_items c.args.bytes) ok typed
+invariant_of-result g c =
+    let l = g.F.Format.LAYOUT in
+    let img = vec_items c.args.bytes in
+    let clear = subst (λ xs. Clear (open_grounds l xs)) c.as_slice.ensures.value c.in-Ok.ensures.answers.0 in
+    record {
+      marked = marked l img clear;
+      shape = shape l img clear;
+      typed = subst (λ (xs : List ℕ). (k : ℕ) → get_or xs k 0 < 256) c.as_slice.ensures.value c.check_header.ensures.bytes;
+    }
 
 pub returns-in-Err : goal.returns-in-Err
-returns-in-Err c = (subst (λ img. Told (open_grounds c.args.layout img) (refusal_of c.in-Err.fault)) c.as_slice.ensures.value c.in-Err.ensures.answers.0, refl)
+returns-in-Err g c = (subst (λ xs. Told (open_grounds g.F.Format.LAYOUT xs) (refusal_of c.in-Err.fault)) c.as_slice.ensures.value c.in-Err.ensures.answers.0, refl)
 
 pub returns-in-Ok : goal.returns-in-Ok
-returns-in-Ok c =
-    let clear = subst (λ img. Clear (open_grounds c.args.layout img)) c.as_slice.ensures.value c.in-Ok.ensures.answers.0 in
-    (clear, (refl, marked c.args.layout (vec_items c.args.bytes) clear))
+returns-in-Ok g c = (subst (λ xs. Clear (open_grounds g.F.Format.LAYOUT xs)) c.as_slice.ensures.value c.in-Ok.ensures.answers.0, refl)

@@ -1,2 +1,0 @@
-pub mod Keeps
-pub mod Makes

@@ -1,7 +1,0 @@
-use Rattle.std.proofs.Common.{◌≡◌, take, vec_items}
-use Rattle.rack.specs.Shares.{joined}
-use Rattle.rack.proofs.shares.gather.Given as goal
-
--- so far the payloads of the first numbers are there
-abbrev pub invariant-loop-number : goal.invariant-loop-number
-invariant-loop-number l = vec_items l.payloads ≡ joined l.shares (take l.number-index l.numbers)
