@@ -1,4 +1,7 @@
 // What ends a program early, and how the errors of the calls turn into it.
+ghost use Rattle.std.specs.Prelude.{◌≡◌};
+ghost use Rattle.dumps.specs.declared.failure.Failure.TheVariants.{TurnedDown, Memory, System};
+
 use image::Unopened;
 use refusal::Fault;
 use std::alloc::{AllocError, AllocFailed};
@@ -20,6 +23,8 @@ pub enum Failure {
 }
 
 impl From<Fault> for Failure {
+    ghost from_gives = { λ fault failure. failure ≡ TurnedDown fault };
+
     // A refusal keeps what it tells.
     fn from(fault: Fault) -> Failure {
         Failure::TurnedDown(fault)
@@ -27,6 +32,8 @@ impl From<Fault> for Failure {
 }
 
 impl From<Unopened> for Failure {
+    ghost from_gives = { λ unopened failure. failure ≡ TurnedDown unopened.fault };
+
     // The refusal is kept, and the image is let go.
     fn from(unopened: Unopened) -> Failure {
         Failure::TurnedDown(unopened.fault)
@@ -34,6 +41,8 @@ impl From<Unopened> for Failure {
 }
 
 impl From<AllocError> for Failure {
+    ghost from_gives = { λ _ failure. failure ≡ Memory };
+
     // No memory for a new value.
     fn from(_error: AllocError) -> Failure {
         Failure::Memory
@@ -41,6 +50,8 @@ impl From<AllocError> for Failure {
 }
 
 impl<T: Drop> From<AllocFailed<T>> for Failure {
+    ghost from_gives = { λ _ failure. failure ≡ Memory };
+
     // No memory for a value that was to be added, which is let go.
     fn from(_error: AllocFailed<T>) -> Failure {
         Failure::Memory
@@ -48,6 +59,8 @@ impl<T: Drop> From<AllocFailed<T>> for Failure {
 }
 
 impl From<io::Error> for Failure {
+    ghost from_gives = { λ error failure. failure ≡ System error };
+
     // An error of the system is kept.
     fn from(error: io::Error) -> Failure {
         Failure::System(error)

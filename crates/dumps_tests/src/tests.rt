@@ -2,7 +2,7 @@
 use code::{Code, FieldChoice};
 use dumps::banks::{Kept, keep};
 use dumps::shares;
-use dumps::timing::{measure, measure_fields};
+use dumps::timing::{Measurement, measure, measure_fields};
 use image::Tray;
 use std::alloc::{AllocError, Global};
 use std::test::Fail;
@@ -34,7 +34,7 @@ fn measured_files(rt: HostRuntime) -> Result<(), Fail> {
     ];
     for (field, check) in fields {
         let measured = measure(&rt, field, 64)?;
-        assert_eq!(rt; measured.field as usize, field as usize);
+        assert_eq!(rt; measured.field, field);
         assert_eq!(rt; measured.block, 4);
         assert_eq!(rt; measured.check, check);
     }
@@ -70,5 +70,22 @@ fn a_file_kept_on_a_tray(rt: HostRuntime) -> Result<(), Fail> {
     let kept = Kept { bank: &tray, id: 9 };
     let file = kept.bring_back(heap, code, &[3, 0], 2)?;
     assert_eq!(rt; file.as_slice(), [5, 7].as_slice());
+    Ok(())
+}
+
+// What a measurement says in words.
+#[test]
+fn a_measurement_in_words(rt: HostRuntime) -> Result<(), Fail> {
+    let measured = Measurement {
+        field: FieldChoice::Prime,
+        block: 512,
+        smallest: 81,
+        median: 85,
+        check: 10,
+    };
+    let words = format!(in rt.alloc(); "{measured}")?;
+    let by_hand =
+        "field 1: shares 16 to 31 from 16 blocks of 512 bytes\n  smallest 81 us, median 85 us, the last payload's check sum 0x000000000000000a";
+    assert_eq!(rt; words.as_str(), by_hand);
     Ok(())
 }
