@@ -16,11 +16,6 @@ abbrev pub limited : (ℕ → ℕ) → Rack → Rack
 limited q [] = []
 limited q (s ∷ rest) = under (q 0) s ∷ limited (λ k. q (suc k)) rest
 
--- a bank and the quotas that it is under, one for each sled
-pub record UnderQuotas (B : Type 0) : Type 0 where
-  pub bank : B
-  pub quotas : List ℕ
-
 -- the sleds of the second rack after those of the first; those past number 31 are not seen
 abbrev pub joined : Rack → Rack → Rack
 joined a b = take 32 (a ++ b)

@@ -8,7 +8,6 @@ ghost use Rattle.bank.specs.Joined.{sound_joined};
 use crate::checks::refuse;
 use crate::{Bank, Key};
 use refusal::{Fault, Reason};
-use std::marker::Model;
 
 // The bank in which a sled lies, and the number that it has there.
 #[derive(Clone, Copy, Debug)]
@@ -30,39 +29,32 @@ fn side_by(first: usize, sleds: usize, sled: usize) -> Option<Side>
     }
 }
 
-// Two banks as one.
+// Two banks as one. No `impl Model`: with one, no type could lead through a join to itself, as a type of piles of any depth does.
 #[derive(Debug, Drop)]
 pub struct Join<L, R> {
     first: L,
     second: R,
 }
 
-// It is seen as the pair of the banks.
-impl<L, R> Model for Join<L, R> {
-    ghost Value = { L × R };
-
-    ghost view = { λ j. (j.first, j.second) };
-}
-
 impl<L: Bank, R: Bank> Join<L, R> {
     // The two banks in this order.
     pub fn new(first: L, second: R) -> Self
-        ensures { result ≡ (first, second) }
+        ensures { result ≡ record { first = first; second = second } }
     {
         Join { first, second }
     }
 
     // The two banks below.
     pub fn into_banks(self) -> (L, R)
-        ensures { result ≡ self }
+        ensures { result ≡ (self.first, self.second) }
     {
         (self.first, self.second)
     }
 
     // The side on which a sled lies, if there is one of this number.
     fn side(&self, sled: usize) -> Option<Side>
-        ensures value { result ≡ side_of (L.meaning self.now.0) (R.meaning self.now.1) sled }
-        ensures same { sled_at (joined (L.meaning self.now.0) (R.meaning self.now.1)) sled ≡ sled_on result (L.meaning self.now.0) (R.meaning self.now.1) }
+        ensures value { result ≡ side_of (L.meaning self.now.first) (R.meaning self.now.second) sled }
+        ensures same { sled_at (joined (L.meaning self.now.first) (R.meaning self.now.second)) sled ≡ sled_on result (L.meaning self.now.first) (R.meaning self.now.second) }
     {
         side_by(self.first.sleds(), self.sleds(), sled)
     }
@@ -71,12 +63,12 @@ impl<L: Bank, R: Bank> Join<L, R> {
 // Each method matches on the side itself: a helper would take two closures at each call, one for each bank, and be no shorter.
 // The clauses speak of the two banks below; from them follows what the trait asks of the two as one.
 impl<L: Bank, R: Bank> Bank for Join<L, R> {
-    ghost meaning = { λ j. joined (L.meaning j.0) (R.meaning j.1) };
+    ghost meaning = { λ j. joined (L.meaning j.first) (R.meaning j.second) };
 
-    ghost sound = { λ b. sound_joined _ _ (L.sound b.0) (R.sound b.1) };
+    ghost sound = { λ b. sound_joined _ _ (L.sound b.first) (R.sound b.second) };
 
     fn sleds(&self) -> usize
-        ensures { result ≡ min (length (L.meaning self.now.0) + length (R.meaning self.now.1)) 32 }
+        ensures { result ≡ min (length (L.meaning self.now.first) + length (R.meaning self.now.second)) 32 }
     {
         (self.first.sleds() + self.second.sleds()).min(32)
     }
@@ -114,7 +106,7 @@ impl<L: Bank, R: Bank> Bank for Join<L, R> {
     }
 
     fn fetch(&self, sled: usize, key: Key, buffer: &mut [u8]) -> Result<usize, Fault>
-        ensures { FetchesBySide (L.meaning self.now.0) (R.meaning self.now.1) sled key.id key.number buffer.old buffer.new result }
+        ensures { FetchesBySide (L.meaning self.now.first) (R.meaning self.now.second) sled key.id key.number buffer.old buffer.new result }
     {
         match self.side(sled).ok_or(refuse(Reason::BadSled, sled))? {
             Side::First(k) => self.first.fetch(k, key, buffer),
@@ -123,7 +115,7 @@ impl<L: Bank, R: Bank> Bank for Join<L, R> {
     }
 
     fn put(&mut self, sled: usize, key: Key, payload: &[u8]) -> Result<(), Fault>
-        ensures { PutsBySide (L.meaning self.old.0) (L.meaning self.new.0) (R.meaning self.old.1) (R.meaning self.new.1) sled key.id key.number payload.now result }
+        ensures { PutsBySide (L.meaning self.old.first) (L.meaning self.new.first) (R.meaning self.old.second) (R.meaning self.new.second) sled key.id key.number payload.now result }
     {
         match self.side(sled).ok_or(refuse(Reason::BadSled, sled))? {
             Side::First(k) => self.first.put(k, key, payload),
@@ -132,7 +124,7 @@ impl<L: Bank, R: Bank> Bank for Join<L, R> {
     }
 
     fn blank(&mut self, sled: usize) -> Result<(), Fault>
-        ensures { BlanksBySide (L.meaning self.old.0) (L.meaning self.new.0) (R.meaning self.old.1) (R.meaning self.new.1) sled result }
+        ensures { BlanksBySide (L.meaning self.old.first) (L.meaning self.new.first) (R.meaning self.old.second) (R.meaning self.new.second) sled result }
     {
         match self.side(sled).ok_or(refuse(Reason::BadSled, sled))? {
             Side::First(k) => self.first.blank(k),

@@ -1,14 +1,13 @@
 // A quota on the shares of each sled of the bank below.
 ghost use Rattle.std.specs.Prelude.{◌≡◌, length, is_some};
 ghost use Rattle.bank.specs.Calls.{Fetches, Blanks};
-ghost use Rattle.bank.specs.Layers.{quota_of, under, limited, UnderQuotas};
+ghost use Rattle.bank.specs.Layers.{quota_of, under, limited};
 ghost use Rattle.bank.specs.Below.{PutsUnder};
 ghost use Rattle.bank.specs.Meaning.{sled_at, held, count};
 ghost use Rattle.bank.specs.Limited.{sound_limited};
 
 use crate::{Bank, Key};
 use refusal::Fault;
-use std::marker::Model;
 
 // The quota of each sled: how many shares it may hold, 0 for one that is only read.
 #[derive(Clone, Copy, Debug)]
@@ -25,24 +24,17 @@ impl Limits {
     }
 }
 
-// A bank whose sleds take no more shares than their quotas; a sled that holds more keeps them.
+// A bank whose sleds take no more shares than their quotas; a sled that holds more keeps them. No `impl Model`, as for a join.
 #[derive(Debug, Drop)]
 pub struct Quota<B> {
     bank: B,
     limits: Limits,
 }
 
-// It is seen as the bank below and the quotas.
-impl<B> Model for Quota<B> {
-    ghost Value = { UnderQuotas B };
-
-    ghost view = { λ q. record { bank = q.bank; quotas = q.limits.numbers } };
-}
-
 impl<B: Bank> Quota<B> {
     // The bank under these quotas, one for each sled.
     pub fn new(bank: B, quotas: [usize; 32]) -> Self
-        ensures { result ≡ record { bank = bank; quotas = quotas } }
+        ensures { result ≡ record { bank = bank; limits = record { numbers = quotas } } }
     {
         Quota {
             bank,
@@ -60,7 +52,7 @@ impl<B: Bank> Quota<B> {
 
 // The clauses speak of the bank below; from them follows what the trait asks of the bank under its quotas.
 impl<B: Bank> Bank for Quota<B> {
-    ghost meaning = { λ q. limited (quota_of q.quotas) (B.meaning q.bank) };
+    ghost meaning = { λ q. limited (quota_of q.limits.numbers) (B.meaning q.bank) };
 
     ghost sound = { λ b. sound_limited _ _ (B.sound b.bank) };
 
@@ -77,7 +69,7 @@ impl<B: Bank> Bank for Quota<B> {
     }
 
     fn room(&self, sled: usize) -> usize
-        ensures { result ≡ (under (quota_of self.now.quotas sled) (sled_at (B.meaning self.now.bank) sled)).room }
+        ensures { result ≡ (under (quota_of self.now.limits.numbers sled) (sled_at (B.meaning self.now.bank) sled)).room }
     {
         let left = self
             .limits
@@ -87,7 +79,7 @@ impl<B: Bank> Bank for Quota<B> {
     }
 
     fn size(&self, sled: usize) -> usize
-        ensures { result ≡ (under (quota_of self.now.quotas sled) (sled_at (B.meaning self.now.bank) sled)).size }
+        ensures { result ≡ (under (quota_of self.now.limits.numbers sled) (sled_at (B.meaning self.now.bank) sled)).size }
     {
         self.limits.quota(sled).min(self.bank.size(sled))
     }
@@ -105,8 +97,8 @@ impl<B: Bank> Bank for Quota<B> {
     }
 
     fn put(&mut self, sled: usize, key: Key, payload: &[u8]) -> Result<(), Fault>
-        ensures below { PutsUnder (quota_of self.old.quotas) (B.meaning self.old.bank) (B.meaning self.new.bank) sled key.id key.number payload.now result }
-        ensures quotas { self.new.quotas ≡ self.old.quotas }
+        ensures below { PutsUnder (quota_of self.old.limits.numbers) (B.meaning self.old.bank) (B.meaning self.new.bank) sled key.id key.number payload.now result }
+        ensures limits { self.new.limits ≡ self.old.limits }
     {
         self.check_put(sled, key, payload.len())?;
         self.bank.put(sled, key, payload)
@@ -114,7 +106,7 @@ impl<B: Bank> Bank for Quota<B> {
 
     fn blank(&mut self, sled: usize) -> Result<(), Fault>
         ensures below { Blanks (B.meaning self.old.bank) (B.meaning self.new.bank) sled result }
-        ensures quotas { self.new.quotas ≡ self.old.quotas }
+        ensures limits { self.new.limits ≡ self.old.limits }
     {
         self.bank.blank(sled)
     }

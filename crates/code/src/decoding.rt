@@ -29,19 +29,19 @@ fn are_different(n: usize, shares: &[usize]) -> bool
     true
 }
 
-// The bytes of the blocks, as far as they lie below len. Fails where one is no byte.
+// The bytes of the blocks, as far as they lie below len. Fails where one is no byte. It fills its caller's room, as read_symbols does.
 fn decode_blocks<F: Field>(
     points: &[F::Symbol],
     rows: &[F::Symbol; 16384],
     block: usize,
     len: usize,
-) -> Result<[u8; 16384], BadSymbol>
+    found: &mut [u8; 16384],
+) -> Result<(), BadSymbol>
     requires few { length points.now ≤ 16 }
     requires short { block ≤ 1024 }
     requires cut { len ≤ length points.now * block }
-    ensures { MatchResult result (λ found. (length found ≡ 16384) × ((b i : ℕ) → i < block → b * block + i < len → IsByteOf F.model (value_at F.Field points.now rows.now block (F.model.point b) i) (slice_index found (b * block + i)))) (λ _. (b : ℕ) × (i : ℕ) × (i < block) × (b * block + i < len) × HasNoByte F.model (value_at F.Field points.now rows.now block (F.model.point b) i)) }
+    ensures { MatchResult result (λ _. (length found.new ≡ 16384) × ((b i : ℕ) → i < block → b * block + i < len → IsByteOf F.model (value_at F.Field points.now rows.now block (F.model.point b) i) (slice_index found.new (b * block + i)))) (λ _. (b : ℕ) × (i : ℕ) × (i < block) × (b * block + i < len) × HasNoByte F.model (value_at F.Field points.now rows.now block (F.model.point b) i)) }
 {
-    let mut found = [0u8; 16384];
     // By the number b, which is that of the block, of its point and of its place: over chunks_mut it would be counted all the same.
     for b in 0..points.len() {
         let start = b * block;
@@ -49,11 +49,12 @@ fn decode_blocks<F: Field>(
             break;
         }
         let point = F::point(b).unwrap();
-        let sums = interpolate::<F>(points, rows, block, point);
+        let mut sums = [F::zero(); 1024];
+        interpolate::<F>(points, rows, block, point, &mut sums);
         let count = block.min(len - start);
         bytes_of::<F>(&sums[..count], &mut found[start..])?;
     }
-    Ok(found)
+    Ok(())
 }
 
 // As decode_in, but for its second clause, which follows from the first: so the steps of the code are proved to one clause, and the theorem apart.
@@ -79,9 +80,11 @@ fn decode_with<F: Field>(
     if out.len() < len {
         return Err(refuse(Reason::ShortBuffer));
     }
-    let symbols = read_symbols::<F>(payloads, k * block)?;
+    let mut symbols = [F::zero(); 16384];
+    read_symbols::<F>(payloads, k * block, &mut symbols)?;
     let points = points_of::<F>(shares);
-    let found = decode_blocks::<F>(&points[..k], &symbols, block, len)?;
+    let mut found = [0u8; 16384];
+    decode_blocks::<F>(&points[..k], &symbols, block, len, &mut found)?;
     out[..len].copy_from_slice(&found[..len]);
     Ok(())
 }

@@ -29,7 +29,8 @@ fn write_payload<F: Field>(k: usize, block: usize, file: &[u8], share: usize, ou
     let symbols = load_file::<F>(file);
     let points = points_of::<F>(&FIRST[..k]);
     let point = F::point(share).unwrap();
-    let sums = interpolate::<F>(&points[..k], &symbols, block, point);
+    let mut sums = [F::zero(); 1024];
+    interpolate::<F>(&points[..k], &symbols, block, point, &mut sums);
     store::<F>(&sums[..block], out);
 }
 

@@ -55,26 +55,27 @@ fn add_scaled<F: Field>(sums: &mut [F::Symbol], row: &[F::Symbol], weight: F::Sy
     }
 }
 
-// The values at y, one for each place, of the polynomials through the rows, of which row m has the values at point m.
+// Adds to sums that are zero the values at y, one for each place, of the polynomials through the rows, of which row m has the values at point m. The sums
+// are the caller's: an array that is answered would be held twice on the stack.
 #[tactic(auto, unfolding(crate::specs::Lagrange::interpolated))]
 pub(crate) fn interpolate<F: Field>(
     points: &[F::Symbol],
     rows: &[F::Symbol; 16384],
     block: usize,
     y: F::Symbol,
-) -> [F::Symbol; 1024]
+    sums: &mut [F::Symbol; 1024],
+)
     requires short { block ≤ 1024 }
     requires whole { length points.now * block ≤ 16384 }
-    ensures size { length result ≡ 1024 }
-    ensures values { (i : ℕ) → i < block → entry F.Field result i ≡ value_at F.Field points.now rows.now block (F.elem y) i }
+    requires zeros { (i : ℕ) → i < block → entry F.Field sums.old i ≡ F.model.zero }
+    ensures size { length sums.new ≡ 1024 }
+    ensures values { (i : ℕ) → i < block → entry F.Field sums.new i ≡ value_at F.Field points.now rows.now block (F.elem y) i }
 {
     let rows = &rows[..];
-    let mut sums = [F::zero(); 1024];
     // By the number m, which is that of the row, of its point and of its weight: over chunks_exact it would be counted all the same.
     for m in 0..points.len() {
         let weight = weight_of::<F>(points, m, y);
         let start = m * block;
-        add_scaled::<F>(&mut sums, &rows[start..start + block], weight);
+        add_scaled::<F>(&mut sums[..], &rows[start..start + block], weight);
     }
-    sums
 }

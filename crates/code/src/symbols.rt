@@ -65,22 +65,23 @@ pub(crate) fn store<F: Field>(symbols: &[F::Symbol], out: &mut [u8])
     }
 }
 
-// Reads the symbols that are stored one after another, or fails where one is outside the field.
+// Reads the symbols that are stored one after another, or fails where one is outside the field. It fills its caller's room: an array in a Result
+// would be held twice on the stack.
 pub(crate) fn read_symbols<F: Field>(
     bytes: &[u8],
     count: usize,
-) -> Result<[F::Symbol; 16384], BadSymbol>
+    symbols: &mut [F::Symbol; 16384],
+) -> Result<(), BadSymbol>
     requires few { count ≤ 16384 }
     requires whole { length bytes.now ≡ count * F.model.width }
     requires small { count * F.model.width ≤ 16384 }
-    ensures { MatchResult result (λ symbols. (length symbols ≡ 16384) × ((t : ℕ) → t < count → F.model.stored (entry F.Field symbols t) ≡ take F.model.width (drop (t * F.model.width) bytes.now))) (λ _. (t : ℕ) × (t < count) × ((e : F.elements) → F.model.stored e ≢ take F.model.width (drop (t * F.model.width) bytes.now))) }
+    ensures { MatchResult result (λ _. (length symbols.new ≡ 16384) × ((t : ℕ) → t < count → F.model.stored (entry F.Field symbols.new t) ≡ take F.model.width (drop (t * F.model.width) bytes.now))) (λ _. (t : ℕ) × (t < count) × ((e : F.elements) → F.model.stored e ≢ take F.model.width (drop (t * F.model.width) bytes.now))) }
 {
-    let mut symbols = [F::zero(); 16384];
     // By place: over chunks_exact the proof was tried, and five goals stayed open.
     for t in 0..count {
         symbols[t] = F::read(&bytes[t * F::WIDTH..t * F::WIDTH + F::WIDTH]).ok_or(BadSymbol)?;
     }
-    Ok(symbols)
+    Ok(())
 }
 
 // Writes the bytes that stand for the symbols to the start of the buffer, or fails where one is no byte.

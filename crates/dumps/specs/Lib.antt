@@ -1,4 +1,5 @@
 pub mod Shares
+pub mod Failures
 pub mod Kept
 pub mod Words
 pub mod Bench

@@ -1,6 +1,7 @@
 // The shares of a dump on the sleds of a bank.
-ghost use Rattle.std.specs.Prelude.{◌≡◌, IfOk, vec_len, OnOk};
+ghost use Rattle.std.specs.Prelude.{◌≡◌, IfOk, IfErr, vec_len, OnOk};
 ghost use Rattle.dumps.specs.Shares.{BringsBack};
+ghost use Rattle.dumps.specs.Failures.{OfCall};
 ghost use Rattle.dumps.specs.Kept.{AllKept, HoldsPayload, held_payloads};
 
 use crate::failure::Failure;
@@ -11,7 +12,8 @@ use std::alloc::Global;
 
 // Puts the shares on the sleds, one sled after another and again from the first.
 pub fn keep<B: Bank>(bank: &mut B, id: u32, shares: &[Share]) -> Result<(), Failure>
-    ensures { OnOk result (AllKept (B.meaning bank.new) id shares.now) }
+    ensures kept { OnOk result (AllKept (B.meaning bank.new) id shares.now) }
+    ensures failure { IfErr result OfCall }
 {
     let sleds = bank.sleds();
     for share in shares {
@@ -31,7 +33,8 @@ pub struct Kept<'a, B> {
 impl<B: Bank> Kept<'_, B> {
     // The payload of the share of this number, from the sled that it was put on.
     fn payload(&self, heap: Global, number: usize) -> Result<Vec<u8>, Failure>
-        ensures { IfOk result (λ v. HoldsPayload (B.meaning self.now.bank.now) self.now.id number v.items) }
+        ensures payload { IfOk result (λ v. HoldsPayload (B.meaning self.now.bank.now) self.now.id number v.items) }
+        ensures failure { IfErr result OfCall }
     {
         let mut payload = vec![in heap; 0u8; PAYLOAD_LIMIT]?;
         let sled = number % self.bank.sleds();
@@ -46,7 +49,8 @@ impl<B: Bank> Kept<'_, B> {
 
     // The payloads of the shares of these numbers, one after another.
     fn payloads(&self, heap: Global, numbers: &[usize]) -> Result<Vec<u8>, Failure>
-        ensures { IfOk result (λ v. v.items ≡ held_payloads (B.meaning self.now.bank.now) self.now.id numbers.now) }
+        ensures payloads { IfOk result (λ v. v.items ≡ held_payloads (B.meaning self.now.bank.now) self.now.id numbers.now) }
+        ensures failure { IfErr result OfCall }
     {
         // a loop: each turn may fail, by the bank or for want of memory
         let mut payloads = Vec::new(heap);
@@ -65,7 +69,8 @@ impl<B: Bank> Kept<'_, B> {
         numbers: &[usize],
         len: usize,
     ) -> Result<Vec<u8>, Failure>
-        ensures { IfOk result (λ v. (vec_len v ≡ len) × BringsBack code numbers.now (held_payloads (B.meaning self.now.bank.now) self.now.id numbers.now) len v.items) }
+        ensures file { IfOk result (λ v. (vec_len v ≡ len) × BringsBack code numbers.now (held_payloads (B.meaning self.now.bank.now) self.now.id numbers.now) len v.items) }
+        ensures failure { IfErr result OfCall }
     {
         let payloads = self.payloads(heap, numbers)?;
         restore(heap, code, numbers, payloads.as_slice(), len)

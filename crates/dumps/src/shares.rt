@@ -1,6 +1,7 @@
 // A dump as shares, and the dump from some of them.
-ghost use Rattle.std.specs.Prelude.{◌≡◌, IfOk, vec_len};
+ghost use Rattle.std.specs.Prelude.{◌≡◌, IfOk, IfErr, vec_len};
 ghost use Rattle.code.specs.Codes.{numbers as code-numbers};
+ghost use Rattle.dumps.specs.Failures.{OfCall};
 ghost use Rattle.dumps.specs.Shares.{MadeShare, AllMade, joined, BringsBack, absent};
 
 use crate::failure::Failure;
@@ -33,7 +34,8 @@ impl fmt::Display for Share {
 
 // One share of the file.
 fn make_share(heap: Global, code: Code, file: &[u8], number: usize) -> Result<Share, Failure>
-    ensures { IfOk result (λ share. MadeShare code file.now number share) }
+    ensures made { IfOk result (λ share. MadeShare code file.now number share) }
+    ensures failure { IfErr result OfCall }
 {
     let mut payload = vec![in heap; 0u8; PAYLOAD_LIMIT]?;
     let size = code.encode(file, number, payload.as_mut_slice())?;
@@ -43,7 +45,8 @@ fn make_share(heap: Global, code: Code, file: &[u8], number: usize) -> Result<Sh
 
 // All shares of the file, by their numbers.
 pub fn cut(heap: Global, code: Code, file: &[u8]) -> Result<Vec<Share>, Failure>
-    ensures { IfOk result (λ v. (vec_len v ≡ (code-numbers code).n) × AllMade code file.now v.items) }
+    ensures made { IfOk result (λ v. (vec_len v ≡ (code-numbers code).n) × AllMade code file.now v.items) }
+    ensures failure { IfErr result OfCall }
 {
     // a loop: with `map` and `try_collect` the proof was tried many times, and its last step stayed open
     let mut shares = Vec::new(heap);
@@ -76,7 +79,8 @@ pub fn restore(
     payloads: &[u8],
     len: usize,
 ) -> Result<Vec<u8>, Failure>
-    ensures { IfOk result (λ v. (vec_len v ≡ len) × BringsBack code numbers.now payloads.now len v.items) }
+    ensures file { IfOk result (λ v. (vec_len v ≡ len) × BringsBack code numbers.now payloads.now len v.items) }
+    ensures failure { IfErr result OfCall }
 {
     let mut file = vec![in heap; 0u8; len]?;
     code.decode(numbers, payloads, len, file.as_mut_slice())?;
@@ -85,7 +89,8 @@ pub fn restore(
 
 // The numbers below n that are not kept, the smallest first.
 pub fn lost(heap: Global, n: usize, kept: &[usize]) -> Result<Vec<usize>, Failure>
-    ensures { IfOk result (λ v. v.items ≡ absent n kept.now) }
+    ensures lost { IfOk result (λ v. v.items ≡ absent n kept.now) }
+    ensures failure { IfErr result OfCall }
 {
     Ok(
         (0..n)

@@ -27,6 +27,12 @@ const ROUNDS: usize = 21;
 // How often the shares are made in a round.
 const REPEATS: u64 = 20;
 
+// The fields that are measured, each with the length of a file of which each payload has 1,024 bytes.
+pub const FIELDS: [(FieldChoice, usize); 2] = [
+    (FieldChoice::Binary, 16384),
+    (FieldChoice::Prime, 8192),
+];
+
 // What is timed: shares of a file that are made one after another into the same buffer.
 #[derive(Drop)]
 struct Bench {
@@ -150,6 +156,17 @@ impl fmt::Display for Measurement {
     }
 }
 
+// The first line of what is told of measurements, which may be printed before any is made.
+#[derive(Clone, Copy, Debug)]
+pub struct Heading;
+
+impl fmt::Display for Heading {
+    // Writes how many shares are made, and how often.
+    fn fmt<W: fmt::Write>(&self, f: &mut fmt::Formatter<W>) -> fmt::Result {
+        write!(f, "time to make 16 shares: {ROUNDS} rounds of {REPEATS}")
+    }
+}
+
 // The measurements of both fields.
 #[derive(Clone, Copy, Debug)]
 pub struct Report {
@@ -158,11 +175,10 @@ pub struct Report {
 }
 
 impl fmt::Display for Report {
-    // Writes how many shares are made, and how often, and then the measurements.
+    // Writes the heading, and then the measurements.
     fn fmt<W: fmt::Write>(&self, f: &mut fmt::Formatter<W>) -> fmt::Result {
         let Report { binary, prime } = self;
-        writeln!(f, "time to make 16 shares: {ROUNDS} rounds of {REPEATS}")?;
-        write!(f, "{binary}\n{prime}")
+        write!(f, "{}\n{binary}\n{prime}", Heading)
     }
 }
 

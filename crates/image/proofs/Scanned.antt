@@ -4,7 +4,7 @@ use Rattle.std.specs.Prelude.{count_by, position}
 use Rattle.std.specs.List.{between, range_with_len, position_or_len}
 use Rattle.std.specs.Option.{option_eq}
 use Rattle.std.specs.Array.{IsFirstChunk}
-use Rattle.std.proofs.lemmas.List.{same_lists, length-map, length-reverse, length-drop, get_or-reverse, length-take, get_or-take, take_all}
+use Rattle.std.proofs.lemmas.List.{same_lists, length-map, length-reverse, get_or-reverse, length-take, get_or-take, take_all}
 use Rattle.std.proofs.Common.{map-id}
 use Rattle.std.proofs.lemmas.List.Folds.{fold-map}
 use Rattle.std.proofs.lemmas.List.Sums.{sum_by-append, prefix_len-le-length}
@@ -22,13 +22,12 @@ use Rattle.image.specs.Sleds.{place_in, places_in, seen_in, turns_in, free_in, a
 use Rattle.image.specs.Positions.{position-map}
 use Rattle.image.specs.Gathered.{pick, lookup-places, pick_found, pick_none, scan_step}
 
--- the first n bytes from a place on are those up to n further on
-pub chunk_at : (bytes part : List ℕ) (at here n : ℕ) → at ≡ here → here + n ≤ length bytes → IsFirstChunk (take (length bytes - at) (drop at bytes)) part n → part ≡ between here (here + n) bytes
-chunk_at bytes part at here n e fits h =
+-- the first n bytes of those from a place on up to n further on are these
+pub chunk_at : (bytes part : List ℕ) (at here n : ℕ) → at ≡ here → IsFirstChunk (between at (at + n) bytes) part n → part ≡ between here (here + n) bytes
+chunk_at bytes part at here n e h =
     h.same
-    ∙ ap (take n) (take_all (length bytes - at) (drop at bytes) (let l = length-drop at bytes in omega arith))
-    ∙ ap (λ i. take n (drop i bytes)) e
-    ∙ ap (λ m. take m (drop here bytes)) (let z : n ≡ here + n - here = omega arith in z)
+    ∙ take_all n (between at (at + n) bytes) (let l = length-take (at + n - at) (drop at bytes) in omega arith)
+    ∙ ap (λ i. between i (i + n) bytes) e
 
 module _ {X : Type 0} (p : X → Bool) where
   module _ (xs : List X) where

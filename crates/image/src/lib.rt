@@ -8,6 +8,7 @@ mod layout;
 mod place;
 mod plan;
 mod sled;
+pub mod theorems;
 mod writes;
 
 pub use image::{Image, Tray, Unopened, Zone};

@@ -12,15 +12,8 @@ pub(crate) struct Place<'a> {
 }
 
 impl<'a> Place<'a> {
-    ghost use Rattle.image.specs.Places.{is_free, is_sound, answers, payload_of};
+    ghost use Rattle.image.specs.Places.{is_sound, answers, payload_of};
     ghost use Rattle.image.specs.Sleds.{read};
-
-    // Whether the place is free.
-    pub(crate) fn is_free(&self) -> bool
-        ensures { result ≡ is_free (read self.now) }
-    {
-        self.entry[0] == 0
-    }
 
     // The share number, as the entry tells it.
     fn number(&self) -> usize

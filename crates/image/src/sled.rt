@@ -29,18 +29,19 @@ impl<'a> Sled<'a> {
     {
         let entry = self.plan.entry_at(number);
         let cell = self.plan.cell_at(number);
+        // From slices of just these lengths: from the rest of the sled, each chunk would be tested for being there.
         Place {
-            entry: self.bytes[entry..].first_chunk().unwrap(),
-            cell: self.bytes[cell..].first_chunk().unwrap(),
+            entry: self.bytes[entry..entry + 16].first_chunk().unwrap(),
+            cell: self.bytes[cell..cell + 1024].first_chunk().unwrap(),
         }
     }
 
-    // Whether a place is free.
+    // Whether a place is free, by the state alone: a put asks it of every place, and need not find their cells.
     fn is_free(&self, number: usize) -> bool
         requires { number < self.now.plan.cells }
         ensures { result ≡ free_in self.now number }
     {
-        self.place(number).is_free()
+        self.bytes[self.plan.entry_at(number)] == 0
     }
 
     // The first free place.

@@ -166,3 +166,28 @@ fn a_pile_of_banks(rt: HostRuntime) -> Result<(), Fail> {
     assert!(rt; zone.into_image().as_slice() == by_hand.as_slice());
     Ok(())
 }
+
+// A pile of any depth: a type that leads through the layers back to itself.
+#[derive(Drop)]
+enum Pile {
+    Image(Tray),
+    Limited(Box<Quota<Pile>>),
+    Joined(Box<Join<Pile, Pile>>),
+}
+
+// How many sleds the image of a pile has, if the pile is an image alone.
+fn sleds_of(pile: &Pile) -> Option<usize> {
+    match pile {
+        Pile::Image(tray) => Some(tray.sleds()),
+        Pile::Limited(_) | Pile::Joined(_) => None,
+    }
+}
+
+// Such a type can be declared, and a value of it is let go whole.
+#[test]
+fn a_pile_of_any_depth(rt: HostRuntime) -> Result<(), Fail> {
+    let heap = rt.alloc();
+    let pile = Pile::Image(tray(tray_bytes(heap, [&[0], &[0]], [b"", b""])?)?);
+    assert_eq!(rt; sleds_of(&pile), Some(1));
+    Ok(())
+}

@@ -3,21 +3,28 @@ use Rattle.std.proofs.lemmas.Nat.{mul-le}
 use Rattle.std.proofs.lemmas.Bool.{cases_eq}
 use Rattle.std.proofs.lemmas.List.{get_or-take, length-take-le}
 use Rattle.code.specs.Lagrange.{entry, value_at, IsByteOf}
-use Rattle.code.proofs.Coded.{known}
+use Rattle.code.proofs.Coded.{known, filled}
 use Rattle.code.proofs.Rows.{row_ends, fails}
 use borrow.Rule.Slice.PartMut.{put_mid, same_len_mid}
 use Rattle.code.proofs.Writes.{before_part, in_part}
 use Rattle.code.proofs.decoding.decode_blocks.Given as given
 use Rattle.code.proofs.decoding.decode_blocks.Goals as goal
-use Rattle.code.proofs.decoding.decode_blocks.Goals.{After-interpolate-sums}
+use Rattle.code.proofs.decoding.decode_blocks.Goals.{After-interpolate}
 
 -- the sums of a turn are the values at the block's point
-value : (g : given.Over) (c : After-interpolate-sums g) (i : ℕ) → i < c.args.block
-    → entry g.F.Field c.interpolate-sums.result i ≡ value_at g.F.Field c.args.points.now c.args.rows.now c.args.block (g.F.Field.model.point c.loop-b.b) i
+value : (g : given.Over) (c : After-interpolate g) (i : ℕ) → i < c.args.block
+    → entry g.F.Field c.interpolate.new.sums i ≡ value_at g.F.Field c.args.points.now c.args.rows.now c.args.block (g.F.Field.model.point c.loop-b.b) i
 value g c i h =
     let f = g.F.Field in
     let at = rw c.unwrap-point.ensures at c.point.ensures in
-    c.interpolate-sums.ensures.values i h ∙ ap (λ y. value_at f c.args.points.now c.args.rows.now c.args.block y i) (known f g.met.F.Field.recovers at.1)
+    c.interpolate.ensures.values i h ∙ ap (λ y. value_at f c.args.points.now c.args.rows.now c.args.block y i) (known f g.met.F.Field.recovers at.1)
+
+pub interpolate-requires : goal.interpolate-requires
+interpolate-requires g c =
+    let f = g.F.Field in
+    let whole = mul-le (length c.args.points.now) c.args.block 16 1024 c.requires.few c.requires.short in
+    let zeros = λ (i : ℕ) (l : i < c.args.block). filled f g.met.F.Field.recovers 1024 i c.zero-sums.result f.model.zero c.zero-sums.ensures (omega (arith, c.requires.short)) in
+    (omega (arith, g.met.F.Field.small), (omega (arith, g.met.F.Field.small), (c.requires.short, (omega arith, zeros))))
 
 pub returns-in_err-bytes_of : goal.returns-in_err-bytes_of
 returns-in_err-bytes_of g c =
@@ -29,8 +36,8 @@ returns-in_err-bytes_of g c =
       bad.0,
       place,
       omega (arith, within, c.min-count.ensures),
-      λ y h e. bad.2 y h (e ∙ sym (value g (goal.at.returns-in_err-bytes_of g c).After-interpolate-sums bad.0 place)
-          ∙ sym (ap g.F.Field.elem (get_or-take c.min-count.result c.interpolate-sums.result bad.0 (g.F.Field.sym g.F.Field.model.zero) within))),
+      λ y h e. bad.2 y h (e ∙ sym (value g (goal.at.returns-in_err-bytes_of g c).After-interpolate bad.0 place)
+          ∙ sym (ap g.F.Field.elem (get_or-take c.min-count.result c.interpolate.new.sums bad.0 (g.F.Field.sym g.F.Field.model.zero) within))),
     )
 
 pub loop-b-preserved : goal.loop-b-preserved
@@ -43,10 +50,10 @@ loop-b-preserved g c =
     let xs = c.loop-b.found in
     let ys = c.bytes_of.new.out in
     let now = put_mid a k xs ys in
-    let sums = c.interpolate-sums.result in
+    let sums = c.interpolate.new.sums in
     let whole = mul-le (length c.args.points.now) B 16 1024 c.requires.few c.requires.short in
     let inside : a ≤ length xs = omega arith in
-    let size : length (take n sums) ≡ n = length-take-le n sums (omega (arith, c.min-count.ensures, c.interpolate-sums.ensures.size)) in (
+    let size : length (take n sums) ≡ n = length-take-le n sums (omega (arith, c.min-count.ensures, c.interpolate.ensures.size)) in (
       same_len_mid a k xs ys c.bytes_of.auto.out ∙ c.loop-b.invariant.0,
       λ b i hb h within. elim (cases_eq b c.loop-b.b) [
         | inl e ↦
@@ -54,7 +61,7 @@ loop-b-preserved g c =
             let here = c.in_ok-bytes_of.ensures i (omega arith) in
             let read : get_or now (a + i) 0 ≡ get_or ys i 0 = in_part 0 xs ys a k inside i (omega (arith, c.bytes_of.auto.out)) in
             subst (λ (n : ℕ). IsByteOf f.model (value_at f c.args.points.now c.args.rows.now B (f.model.point n) i) (get_or now (n * B + i) 0))
-            (sym e) (rw read (here.0, here.1 ∙ ap f.elem (get_or-take n sums i (f.sym f.model.zero) count) ∙ value g (goal.at.loop-b-preserved g c).After-interpolate-sums i h))
+            (sym e) (rw read (here.0, here.1 ∙ ap f.elem (get_or-take n sums i (f.sym f.model.zero) count) ∙ value g (goal.at.loop-b-preserved g c).After-interpolate i h))
         | inr d ↦
             let before : b * B + i < a = omega (arith, row_ends b c.loop-b.b B a (omega arith) (omega arith)) in
             rw (before_part 0 xs ys a k inside (b * B + i) before) (c.loop-b.invariant.1 b i (omega arith) h within)

@@ -29,7 +29,7 @@ lengths g c = record {
 }
 
 pub overflow_mul-k-2 : goal.overflow_mul-k-2
-overflow_mul-k-2 g c = omega (arith, known g c)
+overflow_mul-k-2 g c = omega (arith, known g (goal.at.overflow_mul-k-2 g c).Else-out-len)
 
 pub read_symbols-requires : goal.read_symbols-requires
 read_symbols-requires g c =
@@ -37,11 +37,11 @@ read_symbols-requires g c =
     let h = known g at in
     (omega (arith, g.met.F.Field.small), (h.1, (whole g at ∙ omega arith, h.3)))
 
-pub returns-in_err-symbols : goal.returns-in_err-symbols
-returns-in_err-symbols g c =
-    let at = (goal.at.returns-in_err-symbols g c).Else-out-len in
+pub returns-in_err-read_symbols : goal.returns-in_err-read_symbols
+returns-in_err-read_symbols g c =
+    let at = (goal.at.returns-in_err-read_symbols g c).Else-out-len in
     let o = g.F.Field.model in
-    let bad = c.in_err-symbols.ensures in
+    let bad = c.in_err-read_symbols.ensures in
     let B = c.in-Some.block in
     let some = block_some c.args.len c.args.code.k B (known g at).2 c.in-Some.ensures.0.some in
     told_bad o (numbers c.args.code) c.args.len B c.args.shares.now c.args.payloads.now c.args.out.now c.in-Some.ensures.1 (lengths g at) c.if-not-are_different.ensures c.if-out-len.false
@@ -72,37 +72,37 @@ decode_blocks-requires g c =
     let e = size g (goal.at.decode_blocks-requires g c).After-points_of-points in
     (omega (arith, g.met.F.Field.small), (omega (arith, e, c.args.code.numbers), (h.0, rw e h.2)))
 
-pub returns-in_err-found : goal.returns-in_err-found
+pub returns-in_err-decode_blocks : goal.returns-in_err-decode_blocks
 unfolding reckoned
-returns-in_err-found g c =
+returns-in_err-decode_blocks g c =
     let f = g.F.Field in
     let o = f.model in
-    let at = (goal.at.returns-in_err-found g c).Else-out-len in
-    let far = (goal.at.returns-in_err-found g c).After-points_of-points in
+    let at = (goal.at.returns-in_err-decode_blocks g c).Else-out-len in
+    let far = (goal.at.returns-in_err-decode_blocks g c).After-points_of-points in
     let k = c.args.code.k in
     let B = c.in-Some.block in
     let pts = take k c.points_of-points.result in
-    let bad = c.in_err-found.ensures in
+    let bad = c.in_err-decode_blocks.ensures in
     told_bad o (numbers c.args.code) c.args.len B c.args.shares.now c.args.payloads.now c.args.out.now c.in-Some.ensures.1 (lengths g at) c.if-not-are_different.ensures c.if-out-len.false
-    c.from_residual-in_err-found.result c.from_residual-in_err-found.ensures.1
-    (inr (no_byte o g.met.F.Field.lawful c.args.code.n k (length pts) B c.args.shares.now c.args.payloads.now (entry f pts) (entry f c.in_ok-symbols.symbols)
-    c.args.code.numbers.4 c.if-shares-k.false c.if-not-are_different.ensures (size g far) (points g far) c.in_ok-symbols.ensures.1
+    c.from_residual-in_err-decode_blocks.result c.from_residual-in_err-decode_blocks.ensures.1
+    (inr (no_byte o g.met.F.Field.lawful c.args.code.n k (length pts) B c.args.shares.now c.args.payloads.now (entry f pts) (entry f c.read_symbols.new.symbols)
+    c.args.code.numbers.4 c.if-shares-k.false c.if-not-are_different.ensures (size g far) (points g far) c.in_ok-read_symbols.ensures.1
     c.args.len bad.0 bad.1 bad.2 bad.3 bad.4))
 
 pub slice_bounds-found-end : goal.slice_bounds-found-end
-slice_bounds-found-end g c = let h = known g (goal.at.slice_bounds-found-end g c).Else-out-len in omega (arith, c.in_ok-found.ensures)
+slice_bounds-found-end g c = let h = known g (goal.at.slice_bounds-found-end g c).Else-out-len in omega (arith, c.in_ok-decode_blocks.ensures)
 
 pub slice_bounds-copy_from_slice-end-3 : goal.slice_bounds-copy_from_slice-end-3
 slice_bounds-copy_from_slice-end-3 g c =
     let h = known g (goal.at.slice_bounds-copy_from_slice-end-3 g c).Else-out-len in
-    let e = length-take-le c.args.len c.in_ok-found.found (omega (arith, c.in_ok-found.ensures)) in
+    let e = length-take-le c.args.len c.decode_blocks.new.found (omega (arith, c.in_ok-decode_blocks.ensures)) in
     omega arith
 
 pub copy_from_slice-requires : goal.copy_from_slice-requires
 copy_from_slice-requires g c =
     let h = known g (goal.at.copy_from_slice-requires g c).Else-out-len in
     length-take-le c.args.len c.args.out.now c.if-out-len.false
-    ∙ (let e = length-take-le c.args.len c.in_ok-found.found (omega (arith, c.in_ok-found.ensures)) in omega arith)
+    ∙ (let e = length-take-le c.args.len c.decode_blocks.new.found (omega (arith, c.in_ok-decode_blocks.ensures)) in omega arith)
 
 pub returns : goal.returns
 unfolding reckoned
@@ -124,15 +124,15 @@ returns g c =
     let small = c.args.code.numbers.4 in
     let count = c.if-shares-k.false in
     let apart = c.if-not-are_different.ensures in
-    let found = c.in_ok-found.found in
-    let done = c.in_ok-found.ensures in
+    let found = c.decode_blocks.new.found in
+    let done = c.in_ok-decode_blocks.ensures in
     let h = known g at in
     let long : len ≤ length found = omega (arith, h, done) in
-    let right = decodes o law n k (length pts) B shares payloads (entry f pts) (entry f c.in_ok-symbols.symbols)
-    small count apart (size g far) (points g far) c.in_ok-symbols.ensures.1 len found eB h.2 long done.1 in
+    let right = decodes o law n k (length pts) B shares payloads (entry f pts) (entry f c.read_symbols.new.symbols)
+    small count apart (size g far) (points g far) c.in_ok-read_symbols.ensures.1 len found eB h.2 long done.1 in
     let good : Outside o k B payloads ⊎ NoByte o k B len shares payloads → ⊥ = λ bad. elim bad [
-      | inl outside ↦ inside o law n k (length pts) B shares payloads (entry f pts) (entry f c.in_ok-symbols.symbols)
-          small count apart (size g far) (points g far) c.in_ok-symbols.ensures.1 outside
+      | inl outside ↦ inside o law n k (length pts) B shares payloads (entry f pts) (entry f c.read_symbols.new.symbols)
+          small count apart (size g far) (points g far) c.in_ok-read_symbols.ensures.1 outside
       | inr none ↦ decodes_good o law n k len shares payloads c.args.code.numbers.0 small count apart
           (take len found) right (subst (λ (b : ℕ). NoByte o k b len shares payloads) eB none)
     ] in

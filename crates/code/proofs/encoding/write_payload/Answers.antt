@@ -1,4 +1,4 @@
-use Rattle.std.proofs.Common.{◌≡◌, ℕ, ◌+◌, ◌*◌, ◌≤◌, ◌++◌, length, take, drop, sym, ap, ◌∙◌, arith}
+use Rattle.std.proofs.Common.{◌≡◌, ℕ, ◌+◌, ◌*◌, ◌<◌, ◌≤◌, ◌++◌, length, take, drop, sym, ap, ◌∙◌, arith}
 use Rattle.std.proofs.lemmas.List.{get_or-take, length-take-le}
 use Rattle.code.specs.Lagrange.{entry, interpolated}
 use Rattle.code.specs.Shares.{serial}
@@ -19,11 +19,13 @@ load_file-symbols-requires g c =
 size : (g : given.Over) (c : After-points_of-points g) → length (take c.args.k c.points_of-points.result) ≡ c.args.k
 size g c = length-take-le c.args.k c.points_of-points.result (omega (arith, c.requires.few, c.points_of-points.ensures.size))
 
-pub interpolate-sums-requires : goal.interpolate-sums-requires
-interpolate-sums-requires g c =
+pub interpolate-requires : goal.interpolate-requires
+interpolate-requires g c =
     let h = sizes g.F.Field.model g.met.F.Field.lawful (length c.args.file.now) c.args.k c.args.block c.requires.some c.requires.few c.requires.blocks c.requires.sized in
-    let e = size g (goal.at.interpolate-sums-requires g c).After-points_of-points in
-    (omega (arith, g.met.F.Field.small), (omega (arith, g.met.F.Field.small), (h.0, rw e h.1)))
+    let e = size g (goal.at.interpolate-requires g c).After-points_of-points in
+    let f = g.F.Field in
+    let zeros = λ (i : ℕ) (l : i < c.args.block). coded.filled f g.met.F.Field.recovers 1024 i c.zero-sums.result f.model.zero c.zero-sums.ensures (omega (arith, h.0)) in
+    (omega (arith, g.met.F.Field.small), (omega (arith, g.met.F.Field.small), (h.0, (rw e h.1, zeros))))
 
 pub shared_whole_as_front-store : goal.shared_whole_as_front-store
 shared_whole_as_front-store g c =
@@ -44,14 +46,14 @@ returns g c =
     let h = sizes o law (length file) k block c.requires.some few c.requires.blocks c.requires.sized in
     let pts = take k c.points_of-points.result in
     let rows = c.load_file-symbols.result in
-    let sums = c.interpolate-sums.result in
+    let sums = c.interpolate.new.sums in
     let at = rw c.unwrap-point.ensures at c.point.ensures in
     let value = entry f (take block sums) in
-    let count : length (take block sums) ≡ block = length-take-le block sums (omega (arith, h, c.interpolate-sums.ensures.size)) in
+    let count : length (take block sums) ≡ block = length-take-le block sums (omega (arith, h, c.interpolate.ensures.size)) in
     let payload = sums_payload o law k (length pts) block share file (entry f pts) (entry f rows) value (omega arith) c.requires.blocks (size g (goal.at.returns g c).After-points_of-points)
     (λ i l. ap f.elem (get_or-take k c.points_of-points.result i z l) ∙ c.points_of-points.ensures.points i (omega (arith, first_length k few)) ∙ ap o.point (first_is k i few l))
     (λ t l. c.load_file-symbols.ensures.symbols t (omega (arith, h)))
-    (λ i l. ap f.elem (get_or-take block sums i z l) ∙ c.interpolate-sums.ensures.values i l
+    (λ i l. ap f.elem (get_or-take block sums i z l) ∙ c.interpolate.ensures.values i l
     ∙ ap (interpolated o (entry f pts) (λ m. entry f rows (m * block + i)) (length pts)) (coded.known f g.met.F.Field.recovers at.1)) in
     let bytes = serial o value block in
     record {

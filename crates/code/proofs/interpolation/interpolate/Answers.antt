@@ -1,6 +1,5 @@
-use Rattle.std.proofs.Common.{ℕ, ◌+◌, ◌-◌, ◌*◌, ◌<◌, length, take, drop, sym, refl, ap, ◌∙◌, ap₂, arith}
+use Rattle.std.proofs.Common.{ℕ, ◌+◌, ◌-◌, ◌*◌, ◌<◌, length, take, drop, sym, ap, ◌∙◌, ap₂, arith}
 use Rattle.code.specs.Lagrange.{entry, weight}
-use Rattle.code.proofs.Coded.{filled}
 use Rattle.code.proofs.Turns.{total-zero, total_more}
 use Rattle.code.proofs.Rows.{row_ends, row_length, row_item}
 use Rattle.code.proofs.interpolation.interpolate.Goals as goal
@@ -8,7 +7,7 @@ use Rattle.code.proofs.interpolation.interpolate.Goals as goal
 pub loop-m-init : goal.loop-m-init
 loop-m-init g c =
     let f = g.F.Field in
-    (refl, λ i h. filled f g.met.F.Field.recovers 1024 i c.zero-sums.result f.model.zero c.zero-sums.ensures (omega arith) ∙ total-zero f.model (λ m. f.model.mul (entry f c.args.rows.now (m * c.args.block + i)) (weight f.model (entry f c.args.points.now) (length c.args.points.now) (f.elem c.args.y) m)))
+    (omega arith, λ i h. c.requires.zeros i h ∙ total-zero f.model (λ m. f.model.mul (entry f c.args.rows.now (m * c.args.block + i)) (weight f.model (entry f c.args.points.now) (length c.args.points.now) (f.elem c.args.y) m)))
 
 pub loop-m-preserved : goal.loop-m-preserved
 loop-m-preserved g c =

@@ -6,10 +6,10 @@ pub sleds-tells : goal.sleds-tells
 sleds-tells g c = simp length-joined c.ensures
 
 pub fetch-tells : goal.fetch-tells
-fetch-tells g c = fetch_joined _ _ (g.met.L.Bank.sound c.args.self.now.0).at_most c.ensures
+fetch-tells g c = fetch_joined _ _ (g.met.L.Bank.sound c.args.self.now.first).at_most c.ensures
 
 pub put-tells : goal.put-tells
-put-tells g c = put_joined _ _ _ _ (g.met.L.Bank.sound c.args.self.now.0).at_most c.ensures
+put-tells g c = put_joined _ _ _ _ (g.met.L.Bank.sound c.args.self.now.first).at_most c.ensures
 
 pub blank-tells : goal.blank-tells
-blank-tells g c = blank_joined _ _ _ _ (g.met.L.Bank.sound c.args.self.now.0).at_most c.ensures
+blank-tells g c = blank_joined _ _ _ _ (g.met.L.Bank.sound c.args.self.now.first).at_most c.ensures

@@ -21,7 +21,7 @@ pub fetch-tells : goal.fetch-tells
 fetch-tells g c = fetch_limited _ c.ensures
 
 pub put-tells : goal.put-tells
-put-tells g c = rw c.ensures.quotas (puts_limited _ c.ensures.below)
+put-tells g c = rw c.ensures.limits (puts_limited _ c.ensures.below)
 
 pub blank-tells : goal.blank-tells
-blank-tells g c = rw c.ensures.quotas (blank_limited _ c.ensures.below)
+blank-tells g c = rw c.ensures.limits (blank_limited _ c.ensures.below)
