@@ -1,4 +1,4 @@
--- Which failures the calls on codes, banks and shares tell. Assumes nothing.
+-- Which failures tell of a call that was made: all that the library tells, but where `gather` comes upon a share that was not made. Assumes nothing.
 use Rattle.dumps.specs.declared.failure.Failure.{Failure}
 use Rattle.dumps.specs.declared.failure.Failure.TheVariants.{TurnedDown, NoShare, Memory, System, UnknownRequest}
 

@@ -1,8 +1,9 @@
 // How long it takes to make shares.
-ghost use Rattle.std.specs.Prelude.{◌≡◌, ◌≤◌, IfOk, OnOk, take, replicate, vec_len};
+ghost use Rattle.std.specs.Prelude.{◌≡◌, ◌≤◌, IfOk, IfErr, OnOk, take, replicate, vec_len};
 ghost use Rattle.std.specs.List.Sorted.{IsNonDecreasing};
 ghost use Rattle.code.specs.Codes.{numbers as code-numbers, numbered, field_number};
 ghost use Rattle.code.specs.declared.shape.FieldChoice.TheVariants.{Binary, Prime};
+ghost use Rattle.dumps.specs.Failures.{OfCall};
 ghost use Rattle.dumps.specs.Timing.{IsMeasured};
 
 use crate::failure::Failure;
@@ -27,12 +28,6 @@ const ROUNDS: usize = 21;
 // How often the shares are made in a round.
 const REPEATS: u64 = 20;
 
-// The fields that are measured, each with the length of a file of which each payload has 1,024 bytes.
-pub const FIELDS: [(FieldChoice, usize); 2] = [
-    (FieldChoice::Binary, 16384),
-    (FieldChoice::Prime, 8192),
-];
-
 // What is timed: shares of a file that are made one after another into the same buffer.
 #[derive(Drop)]
 struct Bench {
@@ -49,7 +44,8 @@ impl Bench {
 
     // The bench for a file of so many equal bytes.
     fn new(heap: Global, field: FieldChoice, len: usize) -> Result<Bench, Failure>
-        ensures { IfOk result (λ b. (code-numbers b.code ≡ numbered (field_number field) 16 16 32) × (b.file.items ≡ replicate len 0xA5)) }
+        ensures bench { IfOk result (λ b. (code-numbers b.code ≡ numbered (field_number field) 16 16 32) × (b.file.items ≡ replicate len 0xA5)) }
+        ensures failure { IfErr result OfCall }
     {
         let code = Code::new(usize::from(field), K, K, N)?;
         let file = vec![in heap; 0xA5u8; len]?;
@@ -73,6 +69,7 @@ impl Bench {
     fn make_share(&mut self, share: usize) -> Result<(), Failure>
         ensures made { OnOk result (HasMade self.new share) }
         ensures same { SameWork self.old self.new }
+        ensures failure { IfErr result OfCall }
     {
         self.size = self
             .code
@@ -84,6 +81,7 @@ impl Bench {
     fn make_shares(&mut self) -> Result<(), Failure>
         ensures made { OnOk result (HasMade self.new 31) }
         ensures same { SameWork self.old self.new }
+        ensures failure { IfErr result OfCall }
     {
         // by the numbers of shares, each of which may fail
         for share in K..N {
@@ -96,6 +94,7 @@ impl Bench {
     fn time_round(&mut self, clock: &impl Clock) -> Result<u64, Failure>
         ensures made { OnOk result (HasMade self.new 31) }
         ensures same { SameWork self.old self.new }
+        ensures failure { IfErr result OfCall }
     {
         let start = Instant::now(clock)?;
         // one step again and again, which may fail
@@ -111,6 +110,7 @@ impl Bench {
         ensures sorted { IfOk result IsNonDecreasing }
         ensures made { OnOk result (HasMade self.new 31) }
         ensures same { SameWork self.old self.new }
+        ensures failure { IfErr result OfCall }
     {
         let _warm_up = self.time_round(clock)?;
         // a loop: each turn changes the bench, of which the proof would learn nothing from a closure
@@ -156,7 +156,7 @@ impl fmt::Display for Measurement {
     }
 }
 
-// The first line of what is told of measurements, which may be printed before any is made.
+// The first line of what is told of measurements, which is printed before any is made.
 #[derive(Clone, Copy, Debug)]
 pub struct Heading;
 
@@ -188,7 +188,8 @@ pub fn measure(
     field: FieldChoice,
     len: usize,
 ) -> Result<Measurement, Failure>
-    ensures { IfOk result (IsMeasured field len) }
+    ensures measured { IfOk result (IsMeasured field len) }
+    ensures failure { IfErr result OfCall }
 {
     let mut bench = Bench::new(rt.alloc(), field, len)?;
     let times = bench.time_rounds(rt)?;
@@ -205,9 +206,25 @@ pub fn measure(
 pub fn measure_fields(rt: &(impl Clock + AllocGlobal)) -> Result<Report, Failure>
     ensures binary { IfOk result (λ r. IsMeasured Binary 16384 r.binary) }
     ensures prime { IfOk result (λ r. IsMeasured Prime 8192 r.prime) }
+    ensures failure { IfErr result OfCall }
 {
     Ok(Report {
         binary: measure(rt, FieldChoice::Binary, 16384)?,
         prime: measure(rt, FieldChoice::Prime, 8192)?,
     })
+}
+
+// Measures each field as measure_fields does. Prints the heading first and each measurement as soon as it is made, so that a run that ends early has told
+// what it knew.
+pub fn show_fields(rt: &(impl Clock + AllocGlobal + Print)) -> Result<Report, Failure>
+    ensures binary { IfOk result (λ r. IsMeasured Binary 16384 r.binary) }
+    ensures prime { IfOk result (λ r. IsMeasured Prime 8192 r.prime) }
+    ensures failure { IfErr result OfCall }
+{
+    println!(rt; "{}", Heading)?;
+    let binary = measure(rt, FieldChoice::Binary, 16384)?;
+    println!(rt; "{binary}")?;
+    let prime = measure(rt, FieldChoice::Prime, 8192)?;
+    println!(rt; "{prime}")?;
+    Ok(Report { binary, prime })
 }

@@ -2,7 +2,7 @@
 use code::{Code, FieldChoice};
 use dumps::banks::{Kept, keep};
 use dumps::shares;
-use dumps::timing::{Measurement, measure, measure_fields};
+use dumps::timing::{Measurement, Report, measure, measure_fields, show_fields};
 use image::Tray;
 use std::alloc::{AllocError, Global};
 use std::test::Fail;
@@ -47,6 +47,9 @@ fn measured_fields(rt: HostRuntime) -> Result<(), Fail> {
     let report = measure_fields(&rt)?;
     assert_eq!(rt; report.binary.check, 0x41C2_A9C7_7516_B725);
     assert_eq!(rt; report.prime.check, 0xC22F_480B_691B_AB25);
+    let shown = show_fields(&rt)?;
+    assert_eq!(rt; shown.binary.check, 0x41C2_A9C7_7516_B725);
+    assert_eq!(rt; shown.prime.check, 0xC22F_480B_691B_AB25);
     Ok(())
 }
 
@@ -86,6 +89,30 @@ fn a_measurement_in_words(rt: HostRuntime) -> Result<(), Fail> {
     let words = format!(in rt.alloc(); "{measured}")?;
     let by_hand =
         "field 1: shares 16 to 31 from 16 blocks of 512 bytes\n  smallest 81 us, median 85 us, the last payload's check sum 0x000000000000000a";
+    assert_eq!(rt; words.as_str(), by_hand);
+    Ok(())
+}
+
+// What a report says in words: the heading, and then both measurements.
+#[test]
+fn a_report_in_words(rt: HostRuntime) -> Result<(), Fail> {
+    let binary = Measurement {
+        field: FieldChoice::Binary,
+        block: 1024,
+        smallest: 112,
+        median: 117,
+        check: 11,
+    };
+    let prime = Measurement {
+        field: FieldChoice::Prime,
+        block: 512,
+        smallest: 81,
+        median: 85,
+        check: 10,
+    };
+    let words = format!(in rt.alloc(); "{}", Report { binary, prime })?;
+    let by_hand =
+        "time to make 16 shares: 21 rounds of 20\nfield 0: shares 16 to 31 from 16 blocks of 1024 bytes\n  smallest 112 us, median 117 us, the last payload's check sum 0x000000000000000b\nfield 1: shares 16 to 31 from 16 blocks of 512 bytes\n  smallest 81 us, median 85 us, the last payload's check sum 0x000000000000000a";
     assert_eq!(rt; words.as_str(), by_hand);
     Ok(())
 }

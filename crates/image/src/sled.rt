@@ -36,7 +36,7 @@ impl<'a> Sled<'a> {
         }
     }
 
-    // Whether a place is free, by the state alone: a put asks it of every place, and need not find their cells.
+    // Whether a place is free, by its state alone: a put asks it of place after place, and need not find their cells.
     fn is_free(&self, number: usize) -> bool
         requires { number < self.now.plan.cells }
         ensures { result ≡ free_in self.now number }

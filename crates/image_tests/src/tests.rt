@@ -183,7 +183,7 @@ fn sleds_of(pile: &Pile) -> Option<usize> {
     }
 }
 
-// Such a type can be declared, and a value of it is let go whole.
+// Such a type can be declared, and a value of it, here an image alone, is asked and let go.
 #[test]
 fn a_pile_of_any_depth(rt: HostRuntime) -> Result<(), Fail> {
     let heap = rt.alloc();

@@ -5,7 +5,6 @@ mod demo;
 
 use dumps::failure::Failure;
 use dumps::timing;
-use dumps::timing::Heading;
 use std::{env, fs};
 
 // Reads the dump from the folder that the program runs in, and shows how its shares give it back.
@@ -14,12 +13,9 @@ fn show_shares(rt: &HostRuntime) -> Result<(), Failure> {
     demo::show(rt, dump.as_slice())
 }
 
-// Measures how long it takes to make shares over each field, and prints each measurement as soon as it is made.
+// Measures how long it takes to make shares over each field.
 fn show_times(rt: &HostRuntime) -> Result<(), Failure> {
-    println!(rt; "{}", Heading)?;
-    for (field, len) in timing::FIELDS {
-        println!(rt; "{}", timing::measure(rt, field, len)?)?;
-    }
+    timing::show_fields(rt)?;
     Ok(())
 }
 
